@@ -15,6 +15,13 @@ from web_pages import (
 from wurstlinen.tool.places import program
 
 BAD = "<img src=x onerror=top.bad=1>"
+APPLYING = f"""3 changes:
+Front left ({LEFT}): personality 1 Basic, 7 slots → 2 Extended, 14 slots
+Front left ({LEFT}): address 1 → 20
+Front left ({LEFT}): label Front left → Wash 1
+They make no slots overlap.
+They end this: Front left 1-7 overlaps {HOUSE} House lights 1; Front left 1-7 overlaps {SECOND} Dimmer, second half 1.
+1 missing fixture of the file: not changed."""
 
 
 def way(seen: Window, from_slot: int, to_slot: int) -> Tuple[float, float]:
@@ -45,6 +52,9 @@ class Fixtures(BrowserTestCase):
             seen.until(f"document.querySelector(\"{row(LEFT)} .slots\")?.textContent === '20-26'")
             self.assertEqual(seen.value(f"{row(LEFT)} .label"), BAD)
             self.assertEqual(seen.page.value("[window.bad ?? 0, document.images.length]"), [0, 0])
+            # Its row says what was sent and read back, and takes it back.
+            self.assertEqual(seen.texts(f"{row(LEFT)} .note button"), ["address 1 → 20 · Undo"])
+            self.assertEqual(seen.texts(".rig .made"), ["address 1 → 20 · Undo"])
             # What is taken back is said before. At 1 it would overlap again.
             seen.button("Undo (2)")
             self.assertEqual(seen.texts(".message p"), [f"Undo: {BAD} ({LEFT}): address 20 → 1?"])
@@ -54,9 +64,7 @@ class Fixtures(BrowserTestCase):
             seen.button("Do it anyway")
             seen.until(f"document.querySelector('.message p')?.innerText === "
                        f"'Undone: {BAD} ({LEFT}): address 20 → 1.'")
-            seen.button("Undo (1)")
-            self.assertEqual(seen.texts(".message p"), [f"Undo: {BAD} ({LEFT}): label {BAD} → Front left?"])
-            seen.button("Undo")
+            seen.button(f"label Front left → {BAD} · Undo")
             events.until(lambda parts: parts[f"fixture/{LEFT}"]["label"] == "Front left")
             seen.until(f"document.querySelector('.message p')?.innerText === "
                        f"'Undone: {BAD} ({LEFT}): label {BAD} → Front left.'")
@@ -88,6 +96,13 @@ class Fixtures(BrowserTestCase):
             events.until(lambda parts: parts.get(f"fixture/{RIGHT}", {}).get("address") == 99)
             seen.until(f"document.querySelector(\"{row(RIGHT)} .note\")?.textContent.includes('overlaps Back truss')")
             seen.until(f"document.querySelector(\"{row(RIGHT)} .address\")?.value === '99'")
+            # Or what is offered in its place.
+            seen.click(f"{row(RIGHT)} .address")
+            seen.type("100")
+            seen.key("Enter")
+            seen.button("Set 101, the next free address")
+            events.until(lambda parts: parts.get(f"fixture/{RIGHT}", {}).get("address") == 101)
+            seen.until(f"document.querySelector(\"{row(RIGHT)} .address\")?.value === '101'")
             # Who goes elsewhere leaves the question.
             seen.click(f"{row(RIGHT)} .address")
             seen.type("100")
@@ -95,6 +110,25 @@ class Fixtures(BrowserTestCase):
             seen.until("document.querySelector('.message')")
             seen.button("Slots")
             seen.until("!document.querySelector('.message') && document.querySelector('.universe')")
+
+    @at_each_size
+    def test_a_question_isnt_answered_by_a_press_that_was_under_way(self, size: Tuple[int, int]) -> None:
+        with opened(size) as (seen, _, _rig):
+            seen.until(f"document.querySelector(\"{row(RIGHT)} .label\")?.value === 'Front right'")
+            # What is there at first is remembered.
+            seen.page.value("""new MutationObserver(() => document.querySelector(".message") && (window.first ??=
+                [...document.querySelectorAll(".message button")].map((each) => [each.textContent, each.disabled])))
+                .observe(document.body, { childList: true, subtree: true })""")
+            seen.click(f"{row(RIGHT)} .address")
+            seen.type("99")
+            seen.key("Enter")
+            seen.until("document.querySelector('.message')")
+            self.assertEqual(seen.page.value("window.first"), [
+                ["Set 101, the next free address", True], ["Do it anyway", True], ["Cancel", False]])
+            if size == PHONE:
+                bottom, top = seen.page.value("[document.querySelector('.message').getBoundingClientRect().bottom, "
+                                              "document.querySelector('.main').getBoundingClientRect().top]")
+                self.assertLessEqual(bottom, top)
 
     @at_each_size
     def test_wrong_values_come_back(self, size: Tuple[int, int]) -> None:
@@ -118,8 +152,9 @@ class Fixtures(BrowserTestCase):
             seen.until(f"document.querySelector(\"{label}\")?.value === 'Front left'")
             # A phone has no Escape.
             self.assertEqual(seen.texts(".sending"), [
-                "Leaving a field sends what you typed; Undo takes it back." if size == PHONE else
-                "Enter, or leaving a field, sends what you typed; Escape restores it."])
+                ("Leaving a box sends what you typed; ✕ leaves it as it was." if size == PHONE else
+                 "Enter, or leaving a field, sends what you typed; Escape restores it.")
+                + " Identify next stops the one before it; it goes through what is shown, in this order."])
             # Whoever passes through, types what is there, or takes back what was typed changes nothing.
             seen.click(label)
             for _ in range(12):
@@ -130,6 +165,13 @@ class Fixtures(BrowserTestCase):
                 seen.key(end)
                 self.assertEqual(seen.value(label), "Front left")
                 seen.key("Tab")
+            if size == PHONE:
+                # A finger leaves the box by what is in it.
+                seen.click(label)
+                seen.type("Half a na")
+                seen.tap(f"{label} + .leave")
+                seen.until("document.activeElement === document.body")
+                self.assertEqual(seen.value(label), "Front left")
             seen.click(label)
             seen.type("Wash 1")
             seen.key("Tab")
@@ -201,11 +243,13 @@ class Fixtures(BrowserTestCase):
         with opened(size) as (seen, _, _rig):
             seen.until("document.querySelectorAll('.rig tbody tr').length === 5")
             seen.until(f"document.querySelector(\"{row(SECOND)} .label\").placeholder === "
-                       f"'{SECOND} Dimmer, second half'")
+                       f"'Dimmer, second half at 1, {SECOND}'")
             seen.click("input[type=search]")
             seen.type("wash front")
             seen.until("document.querySelectorAll('.rig tbody tr').length === 2")
             self.assertEqual(seen.texts(".count"), ["5 fixtures, 2 shown"])
+            seen.type("nobody")
+            seen.until("document.querySelector('.tools .main').disabled")
             seen.type("")
             seen.page.value("document.activeElement.value = ''; "
                             "document.activeElement.dispatchEvent(new Event('input'))")
@@ -231,29 +275,29 @@ class Fixtures(BrowserTestCase):
                 self.assertLess(time.monotonic(), until)
             text = saved.read_text(encoding="utf-8")
             self.assertIn(f"{LEFT},Front left,1,1,Wash 7,7\n", text)
-            text = text.replace("Front left,1,", "Wash 1,20,") + "4444:00000004,Lost,9,1,,\n"
+            text = text.replace("Front left,1,1,", "Wash 1,20,2,") + "4444:00000004,Lost,9,1,,\n"
             saved.write_text(text, encoding="utf-8")
             found = seen.page.call("DOM.getDocument")["root"]["nodeId"]
             node = seen.page.call("DOM.querySelector", nodeId=found, selector="#chooser")["nodeId"]
             seen.page.call("DOM.setFileInputFiles", nodeId=node, files=[str(saved)])
-            seen.until("document.querySelectorAll('.differences li').length === 5")
+            seen.until("document.querySelectorAll('.differences li').length === 6")
             shown = " ".join(seen.texts(".differences li"))
             self.assertIn("missing: Lost (4444:00000004)", shown)
             self.assertIn(f"moved: Front left ({LEFT}), at 1, file says 20", shown)
             self.assertIn(f"relabelled: Front left ({LEFT}), label Front left, file says Wash 1", shown)
             self.assertIn("1-7 overlaps 9abc:00000002", shown)
+            self.assertIn("personality 1 Basic, 7 slots, file says 2 Extended, 14 slots", shown)
             bad = [each.split(":")[0] for each in seen.texts(".differences .bad")]
             self.assertEqual(bad, ["missing", "overlap", "overlap"])
             # The table says so, too, and leads there.
             seen.button("Fixtures")
-            seen.button("rig.csv: 3 differences, 2 overlaps")
+            seen.button("rig.csv: 4 differences, 2 overlaps")
             self.assertEqual(seen.texts("#chooser"), [])
             seen.button("Apply rig.csv …")
             seen.until("document.querySelector('.message')")
-            self.assertEqual(seen.texts(".message p"), [
-                f"2 changes:\nFront left ({LEFT}): address 1 → 20\nFront left ({LEFT}): label Front left → Wash 1"])
+            self.assertEqual(seen.texts(".message p"), [APPLYING])
             self.assertEqual(seen.page.value("document.activeElement.textContent"), "Cancel")
-            seen.button("Make 2 changes")
+            seen.button("Make 3 changes")
             events.until(lambda parts: parts.get(f"fixture/{LEFT}", {}).get("label") == "Wash 1"
                          and parts[f"fixture/{LEFT}"]["address"] == 20)
             seen.until("document.querySelectorAll('.differences li').length === 1")
@@ -401,7 +445,7 @@ class OtherViews(BrowserTestCase):
     def test_discovery(self, size: Tuple[int, int]) -> None:
         with opened(size, "discovery") as (seen, _, rig):
             seen.until("document.querySelector('.result')?.textContent.startsWith('5 fixtures found with')")
-            self.assertIn("nothing else can be on this line if it is honest", seen.texts(".result")[0])
+            self.assertIn("if all on the line keep the rules, nothing else is on it", seen.texts(".result")[0])
             self.assertIn("Once it has begun, nothing stops it: it ends by itself.", seen.texts(".tools p"))
             rig.gone.add(rig.fixtures[2].uid)
             rig.delay = 0.02
@@ -414,6 +458,21 @@ class OtherViews(BrowserTestCase):
                        "each.textContent.includes('Back truss (454e:0a000017)'))")
             seen.button("Fixtures")
             seen.until("document.querySelector('.count')?.textContent === '4 found, 1 missing'")
+            # Its slot isn't free.
+            seen.button("Slots")
+            away = f"button.away[data-uid='{BACK}']"
+            seen.until(f"document.querySelector(\"{away}\")?.textContent === 'Back truss (missing)'")
+            self.assertIn("497 slots are free, 1 shared.", seen.texts("main p"))
+            seen.page.value(f"document.querySelector(\"{away}\").focus()")
+            seen.key("ArrowRight")
+            seen.page.value(f"document.querySelector(\"button[data-uid='{RIGHT}']\").focus()")
+            for key in ["ArrowDown"] * (6 if size == PHONE else 3) + ["ArrowLeft"] * 5:
+                seen.key(key)
+            self.assertEqual(seen.texts(".hint"), ["Front right: 8-14 → 99-105, overlaps Back truss (missing)"])
+            seen.key("Enter")
+            seen.until("document.querySelector('.message')?.innerText.includes('Back truss (missing) 100')")
+            seen.button("Cancel")
+            seen.button("Fixtures")
             seen.button("Remove from the list")
             seen.until("document.querySelector('.count')?.textContent === '4 fixtures'")
             seen.button("Discovery")
@@ -439,6 +498,13 @@ class OtherViews(BrowserTestCase):
             self.assertIn("4444:00000001 ", found["Fixtures that did something wrong"])
             self.assertNotIn("4444:00000001", found["Missing"])
             self.assertNotIn("1234:00000099", found["Fixtures that did something wrong"])
+            # The table isn't trusted blindly, either.
+            for view in ("Fixtures", "Slots"):
+                seen.button(view)
+                seen.until("document.querySelector('.result.bad a')")
+                said = seen.texts(".result.bad")[0]
+                self.assertTrue(said.startswith("Take 4444:00000001 off the line, and discover again. "), said)
+                self.assertTrue(said.endswith(" Missing: Lost. Discovery says more."), said)
 
     @at_each_size
     def test_the_line(self, size: Tuple[int, int]) -> None:
@@ -447,13 +513,14 @@ class OtherViews(BrowserTestCase):
                                 {**servers.HELLO, "name": "console"}) as program:
             seen.until("document.querySelector('main')?.textContent.includes('console')")
             # Another program waits for it, too.
-            seen.button("Pause all")
-            self.assertEqual(seen.texts(".message p"), ["This pauses console, too."])
+            seen.button("Pause RDM")
+            self.assertEqual(seen.texts(".message p"), ["This holds the RDM requests of other programs, too: console."])
             seen.button("Pause them, too")
             seen.until("document.querySelector('#status')?.textContent.endsWith(' · paused: no RDM request is sent')")
             program.say({"do": "get", "uid": LEFT, "pid": "0081"})
-            seen.until("document.querySelector('main')?.textContent.includes('Paused: 1 request waits. It ends when')")
-            seen.button("Go on")
+            seen.until("document.querySelector('main')?.textContent.includes('when this page is closed: 1 request "
+                       "waits. A pause holds RDM requests alone; it stops no DMX.')")
+            seen.button("Resume")
             program.next("status")
             seen.until("document.querySelector('tr .command')?.textContent === 'GET 1234:00000001 manufacturer_label'")
             self.assertEqual(seen.texts("tr .answer")[0], "ACK manufacturer_label Wurstlinen")
@@ -465,7 +532,7 @@ class OtherViews(BrowserTestCase):
             seen.until("[...document.querySelectorAll('main button:disabled')].some((each) => "
                        "each.textContent === 'paused by console')")
             program.say({"do": "resume"})
-            seen.button("Pause all")
+            seen.button("Pause RDM")
             seen.button("Cancel")
 
 

@@ -241,6 +241,13 @@ class Window:
         assert isinstance(place, list), f"{what} is covered by {place}"
         self.page.click(*place)
 
+    def tap(self, what: str) -> None:
+        """Touches an element with a finger."""
+        x, y = self.page.value("(({left, top, width, height}) => [left + width / 2, top + height / 2])"
+                               f"(document.querySelector({json.dumps(what)}).getBoundingClientRect())")
+        self.page.call("Input.dispatchTouchEvent", type="touchStart", touchPoints=[{"x": x, "y": y}])
+        self.page.call("Input.dispatchTouchEvent", type="touchEnd", touchPoints=[])
+
     def button(self, text: str) -> None:
         """Clicks the button with this text."""
         self.until(f"[...document.querySelectorAll('button, a')].some((each) => each.checkVisibility() "

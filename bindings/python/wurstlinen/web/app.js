@@ -1,7 +1,6 @@
 // The frame of the page: its views, how things are, and messages.
-
 import { button, classes, make, show } from "/dom.js";
-import { call, follow, lost, maySend, parts, partsOf, token } from "/server.js";
+import { call, fixtureOf, follow, lost, maySend, parts, partsOf, token } from "/server.js";
 import * as discovery from "/discovery.js";
 import * as file from "/file.js";
 import * as fixture from "/fixture.js";
@@ -12,6 +11,8 @@ import * as slots from "/slots.js";
 const views = { fixtures, slots, file, discovery, line, fixture };
 const TITLES = { fixtures: "Fixtures", slots: "Slots", file: "File", discovery: "Discovery", line: "Line" };
 const MESSAGE_TIME = 6_000;
+// A press that was meant for what was there before a question comes sooner.
+const DEAF_TIME = 600;
 // What is under way, by names.
 export const busy = new Set();
 let message = null, place = "";
@@ -19,12 +20,13 @@ let message = null, place = "";
 export const addressOf = (view, rest = "") => `#${token}/${view}${rest ? `/${rest}` : ""}`;
 
 // Says what happened. What went wrong stays until somebody has read it.
-export function say(text, { isBad = false, action = null } = {}) {
-    const said = message = { text, isBad, action, from: document.activeElement };
+export function say(text, { isBad = false, actions = [] } = {}) {
+    const said = message = { text, isBad, actions, from: document.activeElement, isDeaf: true };
     draw();
-    if (action) {
+    if (actions.length) {
         // A question is where keys are.
         document.querySelector("#messages button:last-child").focus();
+        setTimeout(() => (said.isDeaf = false, draw()), DEAF_TIME);
     } else if (!isBad) {
         setTimeout(() => message === said && close(), MESSAGE_TIME);
     }
@@ -32,34 +34,25 @@ export function say(text, { isBad = false, action = null } = {}) {
 
 function close() {
     const { from } = message;
-    message = null;
-    draw();
-    if (document.activeElement === document.body) {
-        from.focus();
-    }
+    draw(message = null);
+    (document.activeElement === document.body ? from : document.activeElement).focus();
 }
 
 // Shows that something is under way.
 export async function busily(name, work) {
-    busy.add(name);
-    redraw();
+    redraw(busy.add(name));
     await work();
-    busy.delete(name);
-    redraw();
+    redraw(busy.delete(name));
 }
 
 // The attributes of an element for something that may be under way.
-export function busyAs(name, ...names) {
-    return { class: classes(...names, busy.has(name) && "busy"), "aria-busy": busy.has(name) ? "true" : null };
-}
+export const busyAs = (name, ...names) => ({ class: classes(...names, busy.has(name) && "busy"),
+    "aria-busy": busy.has(name) ? "true" : null });
 
-// The answer to a call; null if it is a fault, which is said.
+// The answer to a call; nothing if it is a fault, which is said.
 export async function asked(name, keys) {
     const answer = await call(name, keys);
-    if (answer.error) {
-        say(answer.error, { isBad: true });
-    }
-    return answer.error ? null : answer;
+    return answer.error ? void say(answer.error, { isBad: true }) : answer;
 }
 
 // Does something, and says how it ended. If slots would overlap, it is done only if that is wanted.
@@ -69,8 +62,12 @@ export async function act(name, keys, done = "") {
     if (failures.length) {
         say(failures.join("\n"), { isBad: true });
     } else if (problems.length && !made) {
+        const free = keys.column === "address" ? fixtures.freeFrom(fixtureOf(keys.uid), Number(keys.value)) : 0;
+        const instead = { text: `Set ${free}, the next free address`, act: () => act(name, { ...keys,
+            value: String(free) }, `Address ${free} was set, and read back.`) };
         const again = { text: "Do it anyway", act: () => act(name, { ...keys, force: true }, done) };
-        say(`Not done: ${problems.join("; ").replaceAll("; after this,", ";")}.`, { isBad: true, action: again });
+        say(`Not done: ${problems.join("; ").replaceAll("; after this,", ";")}.`,
+            { isBad: true, actions: [...(free ? [instead] : []), again] });
     } else if (answer && done) {
         say(done);
     }
@@ -80,7 +77,7 @@ export async function act(name, keys, done = "") {
 function statusText() {
     const now = parts.get("line");
     if (token === "") {
-        return ["This address has no token. Open the one that “wurstlinen web” has printed.", true];
+        return ["This link has no token: ask whoever started the page for the whole link.", true];
     }
     if (lost || !now) {
         return [`Not connected: ${lost || "no line so far"}.${parts.size ? " What you see is old." : ""}`, true];
@@ -93,32 +90,28 @@ function statusText() {
     return [`${now.name}${now.paused ? " · paused: no RDM request is sent" : mode}`, now.paused];
 }
 
-// Takes the last change back, once that is wanted.
-const undo = ({ text, back }) => say(`Undo: ${back}?`, { action: { text: "Undo",
-    act: () => act("undo", { text }, `Undone: ${back}.`) } });
-
-// Which fixtures show themselves, and how all of them stop.
-function stop() {
-    const all = partsOf("fixture/").filter((found) => found.identifies && !found.missing);
-    return all.length > 0 && button(`${all.length} ${all.length > 1 ? "identify" : "identifies"} · Stop`, () =>
-        all.forEach(({ uid }) => act("identify", { uid, on: false })), { id: "stop", disabled: !maySend() });
-}
+// Takes the last change back, where that is said.
+export const undo = ({ text, back }) => act("undo", { text }, `Undone: ${back}.`);
 
 function header(name) {
     const [text, isBad] = statusText(), last = parts.get("undo");
+    // Which fixtures show themselves, and how all of them stop.
+    const all = partsOf("fixture/").filter((found) => found.identifies && !found.missing);
+    const stop = all.length > 0 && button(`${all.length} ${all.length > 1 ? "identify" : "identifies"} · Stop`, () =>
+        all.forEach(({ uid }) => act("identify", { uid, on: false })), { id: "stop", disabled: !maySend() });
     return make("header", {}, make("h1", {}, "Wurstlinen"),
         make("p", { id: "status", role: "status", class: classes(isBad && "bad") }, text),
-        stop(), button(last ? `Undo (${last.count})` : "Undo", () => undo(last),
-            { id: "undo", title: last ? "" : "nothing was changed", disabled: !maySend() || !last }),
+        stop, button(last ? `Undo (${last.count})` : "Undo", () => say(`Undo: ${last.back}?`, { actions: [{ text:
+            "Undo", act: () => undo(last) }] }), { id: "undo", disabled: !maySend() || !last }),
         make("nav", { "aria-label": "Views" }, Object.entries(TITLES).map(([each, title]) => make("a",
             { href: addressOf(each), "aria-current": each === name ? "page" : null }, title))));
 }
 
 function messages() {
-    const { isBad, action, text } = message ?? {};
+    const { isBad, actions, text, isDeaf: disabled } = message ?? {};
     return make("div", { id: "messages", role: "alert" }, message && make("div", { class: classes("message",
-        isBad && "bad") }, make("p", {}, text), action && button(action.text, () => (close(), action.act())),
-    button(action ? "Cancel" : "Close", close)));
+        isBad && "bad") }, make("p", {}, text), actions.map((each) => button(each.text, () => (close(), each.act()),
+        { disabled })), button(actions.length ? "Cancel" : "Close", close)));
 }
 
 export function draw() {
@@ -127,7 +120,7 @@ export function draw() {
     place = `${name}/${uid}`;
     if (place !== before) {
         // Who goes elsewhere leaves what was asked, and has read what was done.
-        message = message?.isBad && !message.action ? message : null;
+        message = message?.isBad && !message.actions.length ? message : null;
         document.title = `${TITLES[name] ?? uid} · Wurstlinen`;
     }
     show(document.body, [header(name), make("main", { id: "view", key: place, class: name, tabindex: "-1" },
@@ -140,7 +133,6 @@ export function draw() {
 }
 
 let frame = 0;
-
 // A page in the background draws nothing until it is seen.
 export function redraw() {
     frame ||= requestAnimationFrame(() => (frame = 0, draw()));

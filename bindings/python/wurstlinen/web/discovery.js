@@ -1,17 +1,27 @@
 // Discovery: how far it is, what it found, who broke the rules, what is missing and why, and its picture.
-
-import { act } from "/app.js";
+import { act, addressOf } from "/app.js";
 import { button, classes, make, plural } from "/dom.js";
-import { linked, nameOf } from "/fixtures.js";
+import { advice, linked, nameOf } from "/fixtures.js";
 import { fixtureOf, maySend, parts, partsOf } from "/server.js";
 
 function resultText(last) {
-    if (!last || last.runs) {
-        return "";
-    }
     const found = `${plural(last.found, "fixture")} found with ${plural(last.frames, "frame")}`;
-    return last.fault ? `${found}. The discovery is incomplete: ${last.fault}.`
-        : `${found}; nothing else can be on this line if it is honest.`;
+    const bad = (last.devices ?? []).filter((each) => each.is_broken).map(({ uid }) => nameOf(fixtureOf(uid)) || uid);
+    const first = bad.length ? `Take ${bad.join(", ")} off the line, and discover again. ` : "";
+    return last.fault ? `${first}The discovery is incomplete: ${last.fault}. ${found}.`
+        : last.found ? `${found}; if all on the line keep the rules, nothing else is on it.`
+            : `${found}: check the adapter and the first cable.`;
+}
+
+const labelOf = (uid) => parts.get("file")?.differences.find((each) => each.uid === uid)?.label;
+// Those of the file that is loaded, too.
+const neverFound = (last) => (last?.devices ?? []).filter((each) => !each.is_broken && !fixtureOf(each.uid));
+
+// What other views say of a discovery that is incomplete.
+export function alarm() {
+    const last = parts.get("discovery"), absent = neverFound(last).map(({ uid }) => labelOf(uid) || uid).join(", ");
+    return Boolean(last?.fault) && make("p", { class: "result bad" }, `${resultText(last)} `,
+        absent && `Missing: ${absent}. `, make("a", { href: addressOf("discovery") }, "Discovery"), " says more.");
 }
 
 // How far a run is, or was if the result isn't shown.
@@ -26,24 +36,22 @@ function progressText(now, last) {
 
 // What is said of devices, or without a UID of the line.
 function section(title, items) {
-    const labelOf = (uid) => parts.get("file")?.differences.find((each) => each.uid === uid)?.label;
     return items.length > 0 && make("section", {}, make("h3", {}, title), make("ul", {},
         items.map(({ uid = "", text }) => make("li", {}, ...(uid ? linked(uid, labelOf(uid)) : []),
-            `${uid && text.startsWith("exchange") ? ":" : ""} ${text}`))));
+            `${uid && text.startsWith("exchange") ? ":" : ""} ${advice(text)}`))));
 }
 
 export function view() {
     const last = parts.get("discovery"), said = last?.devices ?? [];
-    // The file that is loaded may have others.
     const missing = [...partsOf("fixture/").filter((found) => found.missing).map((found) => ({ uid: found.uid,
-        text: found.missing })), ...said.filter(({ uid, is_broken: isBroken }) => !isBroken && !fixtureOf(uid))];
+        text: found.missing })), ...neverFound(last)];
     const address = last?.picture && `/picture/${last.picture}`;
     const begin = button(last?.runs ? "Discovering …" : "Discover", () => act("discover", {}), { class: "main",
         disabled: !maySend() || Boolean(last?.runs) });
     return [make("div", { class: "tools" }, begin,
         make("p", { class: "sending" }, "Once it has begun, nothing stops it: it ends by itself.")),
         make("p", { role: "status" }, progressText(parts.get("progress"), last)),
-        make("p", { class: classes("result", last?.fault && "bad") }, resultText(last)),
+        make("p", { class: classes("result", last?.fault && "bad") }, last && !last.runs && resultText(last)),
         section("Fixtures that did something wrong", said.filter((each) => each.is_broken)),
         section("Missing", missing), section("Also seen", (last?.others ?? []).map((text) => ({ text }))),
         address && make("div", { key: address }, make("p", {}, make("a", { href: address, target: "_blank",

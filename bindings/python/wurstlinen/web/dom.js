@@ -26,8 +26,7 @@ function set(element, name, value) {
 
 function update(node, wanted) {
     if (!wanted.kind) {
-        node.data = node.data === wanted ? node.data : wanted;
-        return;
+        return void (node.data === wanted || (node.data = wanted));
     }
     const { key, shown = null, ...attributes } = wanted.attributes, before = node.attributesShown ?? {};
     Object.entries(attributes).filter(([name, value]) => before[name] !== value).forEach((each) => set(node, ...each));

@@ -1,9 +1,8 @@
 // A saved file: what differs from it, and what makes the fixtures as it says.
-
 import { act, asked, say } from "/app.js";
 import { button, classes, make, plural } from "/dom.js";
 import { differencesOf, linked } from "/fixtures.js";
-import { maySend, mayUse, parts } from "/server.js";
+import { lost, maySend, mayUse, parts } from "/server.js";
 
 async function save() {
     const answer = await asked("save");
@@ -28,10 +27,13 @@ async function look() {
         say("The fixtures that are here are as the file says.");
     } else if (plan) {
         const isBad = plan.problems.length > 0, count = plural(plan.changes.length, "change");
-        const problems = isBad ? `\nBut ${plan.problems.join("; ")}.` : "";
-        const action = { text: `Make ${count}${isBad ? " anyway" : ""}`, act: () => act("apply", { force: isBad },
-            `${count} made, and read back.`) };
-        say(`${count}:\n${plan.changes.join("\n")}${problems}`, { isBad, action });
+        const absent = parts.get("file")?.differences.filter(({ kind }) => kind === "missing").length;
+        const actions = [{ text: `Make ${count}${isBad ? " anyway" : ""}`, act: () => act("apply", { force: isBad },
+            `${count} made, and read back.`) }];
+        say([`${count}:`, ...plan.changes, isBad ? `But ${plan.problems.join("; ")}.` : "They make no slots overlap.",
+            plan.solved.length ? `They end this: ${plan.solved.join("; ")}.` : "",
+            absent ? `${plural(absent, "missing fixture")} of the file: not changed.` : ""].filter(Boolean).join("\n"),
+        { isBad, actions });
     }
 }
 
@@ -48,7 +50,7 @@ function differences(file) {
 
 export function view() {
     const file = parts.get("file"), disabled = !mayUse();
-    return [make("div", { class: "tools" }, button("Save as CSV", save, { disabled }),
+    return [make("div", { class: "tools" }, button("Save as CSV", save, { disabled: Boolean(lost) }),
         button(`Compare with ${file ? "another" : "a saved"} file …`, ({ target }) => target.nextSibling.click(),
             { disabled }),
         make("input", { type: "file", accept: ".csv,.txt,.tsv,text/csv", id: "chooser", hidden: true, onchange: load }),

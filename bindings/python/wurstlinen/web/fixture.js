@@ -1,8 +1,8 @@
 // One fixture: on a phone it fills the screen. What `show` shows, and what can be set.
-
 import { act, addressOf, busily, busy, say } from "/app.js";
 import { button, classes, make } from "/dom.js";
-import { SENDING, editor, identifier, nameOf, notesOf, ordered, remarksOf, slotsOf, walk } from "/fixtures.js";
+import { SENDING, changeOf, editor, identifier, nameOf, notesOf, ordered, remarksOf, slotsOf, walk }
+    from "/fixtures.js";
 import { fixtureOf, maySend, mayUse, parts } from "/server.js";
 
 // The fixture that was asked for all by this page.
@@ -12,9 +12,7 @@ let asked = "";
 async function go(uid, by) {
     const all = ordered().map((found) => found.uid);
     const next = fixtureOf(uid)?.identifies && maySend() ? await walk(uid, by) : all[all.indexOf(uid) + by];
-    if (next) {
-        location.hash = addressOf("fixture", next);
-    }
+    location.hash = next ? addressOf("fixture", next) : location.hash;
 }
 
 function fieldOf({ name, unit, hint, choices, value }) {
@@ -32,7 +30,7 @@ function formOf(uid, { parameter, about, acts, fields }) {
         const words = fields.flatMap((field, at) => (field.is_list ? values[at].split(" ").filter(Boolean)
             : [values[at]]));
         const set = () => act("set", { uid, parameter, words }, `${title} was set, and the fixture read again.`);
-        return acts ? say(`Really do it: ${title}?`, { action: { text: "Do it", act: set } }) : set();
+        return acts ? say(`Really do it: ${title}?`, { actions: [{ text: "Do it", act: set }] }) : set();
     };
     return make("details", { class: "form" }, make("summary", {}, `Change ${title}`), make("p", {}, about),
         fields.map(fieldOf), button(acts ? `Do it: ${title}` : "Set", send, { disabled: !maySend() }));
@@ -46,16 +44,11 @@ function sectionOf(uid, name, rows, forms) {
             make("dd", {}, text || (found[at] ? "" : "can't be shown here"), found[at] && formOf(uid, found[at]))))));
 }
 
-function readAll(uid) {
-    asked = uid;
-    busily(`${uid}/show`, () => act("show", { uid }));
-}
+const readAll = (uid) => busily(`${asked = uid}/show`, () => act("show", { uid }));
 
-function nudge(found, text, by, where) {
-    const { uid, address, missing } = found;
-    return button(text, () => act("change", { uid, column: "address", value: String(address + by) }),
-        { class: "nudge", "aria-label": `Address one ${where}`, disabled: !maySend() || !address || Boolean(missing) });
-}
+const nudge = ({ uid, address, missing }, text, by, where) => button(text, () => act("change", { uid, column: "address",
+    value: String(address + by) }), { class: "nudge", "aria-label": `Address one ${where}`,
+    disabled: !maySend() || !address || Boolean(missing) });
 
 export function view(uid) {
     const found = fixtureOf(uid), { sections = {}, forms = {}, is_over: isOver } = parts.get(`details/${uid}`) ?? {};
@@ -64,9 +57,7 @@ export function view(uid) {
         return [make("article", {}, back, make("h2", { class: "name" }, uid), make("p", { class: "notes" },
             "It isn't among the fixtures."))];
     }
-    if (maySend() && asked !== uid && !isOver) {
-        readAll(uid);
-    }
+    maySend() && asked !== uid && !isOver && readAll(uid);
     const isReading = busy.has(`${uid}/show`) || isOver === false, notes = notesOf(found);
     const field = (text, column) => make("label", { class: "field" }, make("span", {}, text), editor(found, column));
     const about = [found.manufacturer, found.model, uid, found.first && `slots ${slotsOf(found)}`].filter(Boolean);
@@ -81,7 +72,7 @@ export function view(uid) {
         make("div", { class: "tools steps" }, steps), field("Label", "label"),
         make("div", { class: "place" }, field("Address", "address"), nudge(found, "−", -1, "lower"),
             nudge(found, "+", 1, "higher")),
-        field("Personality", "personality"), make("p", { class: "sending" }, mayUse() ? SENDING : ""),
+        field("Personality", "personality"), changeOf(found), make("p", { class: "sending" }, mayUse() && SENDING),
         make("p", { class: "sensors" }, measured || (parts.get("role") !== "looks" || sections.identity ? ""
             : "Sensors and all else are shown once a page that isn't view only opens it.")),
         mayUse() && button(isReading ? "Reading …" : "Read all again", () => readAll(uid),

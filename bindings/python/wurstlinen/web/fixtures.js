@@ -1,19 +1,25 @@
 // The table of fixtures, in which values are edited in place; and the walk along the truss.
-
-import { act, addressOf, busily, busy, busyAs, redraw, say } from "/app.js";
+import { act, addressOf, busily, busy, busyAs, redraw, say, undo } from "/app.js";
+import { alarm } from "/discovery.js";
 import { button, classes, isTouched, make, plural } from "/dom.js";
 import { fixtureOf, maySend, mayUse, parts, partsOf } from "/server.js";
 
 const COLUMNS = { label: "Label", address: "Address", slots: "Slots", personality: "Personality", model: "Model",
     uid: "UID" };
 const MOST_NOTES = 2;
-export const SENDING = isTouched ? "Leaving a field sends what you typed; Undo takes it back."
+export const SENDING = isTouched ? "Leaving a box sends what you typed; ✕ leaves it as it was."
     : "Enter, or leaving a field, sends what you typed; Escape restores it.";
+const WALKING = "Identify next stops the one before it; it goes through what is shown, in this order.";
 const chosen = { filter: "", column: "address", isDown: false };
 // The fixture to which this page's walk has come, which the page's program may not have shown so far.
 let walked = null;
 
-export const nameOf = (found) => found?.label || found?.model || found?.uid || "";
+export const nameOf = (found) => found?.label || (found?.model && found.address ? `${found.model} at ${found.address}`
+    : found?.model || found?.uid || "");
+// The same, with the word for one whose slots count though it isn't there.
+export const placedNameOf = (found) => nameOf(found) + (found?.missing ? " (missing)" : "");
+// What is to be done comes first, and then why.
+export const advice = (text) => text.replace(/^(.*); (check .*)$/, "$2 ($1)");
 
 // The name of a fixture, which leads to it; or else its label.
 export function linked(uid, label = "") {
@@ -23,23 +29,28 @@ export function linked(uid, label = "") {
 
 // What is wrong with the slots of one of two fixtures, or of the only one.
 export const problemOf = ({ kind, uid, other }, own) => (kind === "end" ? "ends after slot 512"
-    : `overlaps ${nameOf(fixtureOf(own === uid ? other : uid))}`);
+    : `overlaps ${placedNameOf(fixtureOf(own === uid ? other : uid))}`);
+
+// The next address from one on at which a fixture would share no slots; 0 if there is none.
+export function freeFrom({ root, first, last }, wanted) {
+    const others = partsOf("fixture/").filter((each) => each.first && each.root !== root);
+    const isFree = (at) => at + last - first <= 512
+        && others.every((each) => at + last - first < each.first || each.last < at);
+    const all = [1, ...others.map((each) => each.last + 1)].filter(isFree).sort((one, other) => one - other);
+    return all.find((at) => at >= wanted) ?? all[0] ?? 0;
+}
 
 // What is wrong with a fixture, and what else is remarkable.
 export function notesOf({ uid, missing, notes }) {
     const problems = (parts.get("problems") ?? []).filter((each) => each.uid === uid || each.other === uid);
-    return [...(missing ? [`missing: ${missing}`] : []), ...notes, ...problems.map((each) => problemOf(each, uid))];
+    return [...(missing ? [`missing: ${advice(missing)}`] : []), ...notes,
+        ...problems.map((each) => problemOf(each, uid))];
 }
 
-export function remarksOf({ uid, root, is_slow: isSlow }) {
-    return [...(root === uid ? [] : [`part of ${nameOf(fixtureOf(root)) || root}`]),
-        ...(isSlow ? ["answers slowly"] : [])];
-}
-
-export function slotsOf({ first, last, is_read: isRead }) {
-    const unknown = isRead ? "none" : "…";
-    return first ? [...new Set([first, last])].join("-") : unknown;
-}
+export const remarksOf = ({ uid, root, is_slow: isSlow }) => [root === uid ? "" : `part of ${nameOf(fixtureOf(root))
+    || root}`, isSlow ? "answers slowly" : ""].filter(Boolean);
+export const slotsOf = ({ first, last, is_read: isRead }) => (first ? [...new Set([first, last])].join("-")
+    : isRead ? "none" : "…");
 
 // In the order in which they are shown.
 export function ordered() {
@@ -76,18 +87,28 @@ export function editor(found, column) {
     };
     const restore = ({ target }) => (target.value = known());
     const onkeydown = (event) => ({ Escape: restore, Enter: send })[event.key]?.(event);
-    return make(isChoice ? "select" : "input", { ...busyAs(name, column), shown: busy.has(name) ? null : known(),
+    // A phone has no Escape. What was typed is gone before the box is left.
+    const onpointerdown = (event) => (event.preventDefault(), restore({ target: event.target.previousSibling }));
+    const leave = button("✕", ({ target }) => target.previousSibling.blur(), { class: "leave", onpointerdown,
+        "aria-label": "Leave it as it was" });
+    return [make(isChoice ? "select" : "input", { ...busyAs(name, column), shown: busy.has(name) ? null : known(),
         onkeydown, onchange: send, onblur: redraw, autocomplete: "off", spellcheck: "false",
         "aria-label": `${COLUMNS[column]} of ${nameOf(found)}`, inputmode: column === "address" ? "numeric" : null,
-        maxlength: isLabel ? 128 : null, placeholder: isLabel && found.is_read ? `${uid} ${found.model ?? ""}` : null,
+        maxlength: isLabel ? 128 : null, placeholder: isLabel && found.is_read
+            ? [...new Set([nameOf(found), uid])].join(", ") : null,
         disabled: !maySend() || Boolean(found.missing) || !found.is_read
-            || (isChoice && found.personalities.length < 2) }, isChoice ? personalitiesOf(found) : []);
+            || (isChoice && found.personalities.length < 2) }, isChoice ? personalitiesOf(found) : []),
+    isTouched && !isChoice && leave];
 }
+
+// What was changed last, if it was here, and what takes it back.
+export const changeOf = ({ uid }, last = parts.get("undo")) => last?.uid === uid && button(`${last.made} · Undo`,
+    () => undo(last), { class: "made", disabled: !maySend() });
 
 // The switch by which a fixture shows itself.
 export function identifier(found, size = "") {
     const { uid, identifies, missing } = found, name = `${uid}/identify`, on = !identifies;
-    return button(identifies ? "Identifying" : "Identify", () => {
+    return button(identifies ? `Identifying${size && " · Stop"}` : "Identify", () => {
         walked = on ? uid : null;
         busily(name, () => act("identify", { uid, on }));
     }, { ...busyAs(name, "identify", size), role: "switch", "aria-checked": String(Boolean(identifies)),
@@ -108,8 +129,8 @@ export async function walk(from, step) {
 }
 
 async function walkInTable() {
-    const now = ordered().filter((found) => found.identifies).pop();
-    document.getElementById(await walk(walked ?? now?.uid ?? null, 1))?.scrollIntoView({ block: "nearest" });
+    const now = walked ?? ordered().filter((found) => found.identifies).pop()?.uid ?? null;
+    document.getElementById(await walk(now, 1))?.scrollIntoView({ block: "nearest" });
 }
 
 function rowOf(found) {
@@ -120,30 +141,26 @@ function rowOf(found) {
         "of-address": editor(found, "address"), slots: slotsOf(found), "of-personality": editor(found, "personality"),
         model: [found.manufacturer, found.model].filter(Boolean).join(" "), uid,
         note: [make("span", {}, note), " ", make("small", {}, remarksOf(found).join("; ")),
-            missing && mayUse() && button("Remove from the list", () => act("forget", { uid }), { class: "forget" })],
+            changeOf(found), missing && mayUse() && button("Remove from the list", () => act("forget", { uid }))],
         "of-more": make("a", { href: addressOf("fixture", uid), class: "more",
             "aria-label": `All about ${nameOf(found)}` }, "›") };
     return make("tr", { key: uid, id: uid, class: classes(missing && "missing", identifies && "identifies") },
         Object.entries(cells).map(([name, inside]) => make("td", { class: name }, inside)));
 }
 
-function choose(wanted) {
-    Object.assign(chosen, wanted);
-    redraw();
-}
-
+const choose = (wanted) => redraw(Object.assign(chosen, wanted));
 const sortBy = (column) => choose({ column, isDown: chosen.column === column && !chosen.isDown });
 
 // How many differences from a file there are, and overlaps that it doesn't have.
-export function differencesOf({ differences }) {
-    const overlaps = differences.filter(({ kind }) => kind === "overlap").length;
-    return plural(differences.length - overlaps, "difference") + (overlaps ? `, ${plural(overlaps, "overlap")}` : "");
+export function differencesOf({ differences: all }) {
+    const overlaps = all.filter(({ kind }) => kind === "overlap").length;
+    return plural(all.length - overlaps, "difference") + (overlaps ? `, ${plural(overlaps, "overlap")}` : "");
 }
 
 function tools(all, shown) {
     const missing = all.filter((found) => found.missing).length, file = parts.get("file");
     return make("div", { class: "tools" },
-        button("Identify next", walkInTable, { class: "main", disabled: !maySend() || !all.length }),
+        button("Identify next", walkInTable, { class: "main", disabled: !maySend() || !shown.length }),
         make("input", { type: "search", placeholder: "label, UID, model …", "aria-label": "Show only",
             shown: chosen.filter, oninput: ({ target }) => choose({ filter: target.value }) }),
         make("select", { class: "narrow", "aria-label": "Sort by", shown: chosen.column,
@@ -162,7 +179,8 @@ export function view() {
     const heads = Object.entries(COLUMNS).map(([column, title]) => head(button(title, () => sortBy(column)),
         orderOf(column)));
     const none = ["No fixture so far: ", make("a", { href: addressOf("discovery") }, "Discovery"), " says more."];
-    return [tools(all, shown), make("p", { class: "sending" }, all.length ? mayUse() && SENDING : none),
+    return [alarm(), tools(all, shown), make("p", { class: "sending" }, all.length ? mayUse() && `${SENDING} ${WALKING}`
+        : none),
         make("table", { class: "rig" }, make("thead", {}, make("tr", {}, head("Identify"), heads, head("Note"),
             head("More"))), make("tbody", {}, shown.map(rowOf)))];
 }

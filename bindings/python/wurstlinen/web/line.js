@@ -1,5 +1,4 @@
 // The line: which programs use it, what waits, the last requests with their results, and an operator's pause.
-
 import { act, say } from "/app.js";
 import { button, make, plural } from "/dom.js";
 import { mayUse, parts, partsOf } from "/server.js";
@@ -16,10 +15,8 @@ function table(title, columns, rows) {
 
 // A program that has gone keeps its name here.
 function nameOf(client) {
-    const found = parts.get("clients")?.find((each) => each.client === client);
-    if (found?.process) {
-        names.set(client, found.is_page ? "this page" : found.name || `process ${found.process}`);
-    }
+    const { process, is_page: isPage, name } = parts.get("clients")?.find((each) => each.client === client) ?? {};
+    process && names.set(client, isPage ? "this page" : name || `process ${process}`);
     return names.get(client) ?? "a program that has gone";
 }
 
@@ -32,21 +29,19 @@ function programsOf(clients) {
 }
 
 const waits = (count) => (count ? `${plural(count, "request")} wait${count > 1 ? "" : "s"}` : "nothing waits");
-
-function waitingText(isPaused, count) {
-    return isPaused ? `Paused: ${waits(count)}. It ends when each program that paused goes on or ends; closing this `
-        + "page isn't enough." : count ? `${waits(count)}.` : "Nothing waits.";
-}
+const waitingText = (isPaused, count) => (isPaused ? "Paused, until whoever paused resumes, also when this page is "
+    + "closed: " : "") + `${waits(count)}. A pause holds RDM requests alone; it stops no DMX.`;
 
 // The pause, which is asked for once more if it is one for other programs, too; or who has paused.
 function pauser(isPaused, clients, disabled) {
     const namesOf = (some) => some.map((each) => nameOf(each.client)).join(", ");
     const others = clients.filter((each) => !each.is_page), paused = clients.filter((each) => each.paused);
     const change = () => act("pause", { on: !isPaused });
-    const ask = () => say(`This pauses ${namesOf(others)}, too.`, { action: { text: "Pause them, too", act: change } });
+    const ask = () => say(`This holds the RDM requests of other programs, too: ${namesOf(others)}.`,
+        { actions: [{ text: "Pause them, too", act: change }] });
     return isPaused && paused.length && !paused[0].is_page
         ? button(`paused by ${namesOf(paused)}`, null, { disabled: true })
-        : button(isPaused ? "Go on" : "Pause all", !isPaused && others.length ? ask : change, { disabled });
+        : button(isPaused ? "Resume" : "Pause RDM", !isPaused && others.length ? ask : change, { disabled });
 }
 
 export function view() {

@@ -70,29 +70,29 @@ class Plans:
     def _compare(self) -> None:
         """Shows which slots overlap, and what differs from the file."""
         with self._comparing:
-            found, file = self._rig.fixtures(), self._file
-            self._board.put("problems", [{"kind": each.kind, "uid": str(each.fixture.uid),
-                                          "other": each.other and str(each.other.uid)} for each in problems_of(found)])
+            found, file, with_slots = self._rig.fixtures(), self._file, self._rig.with_slots()
+            self._board.put("problems", [
+                {"kind": each.kind, "uid": str(each.fixture.uid), "other": each.other and str(each.other.uid)}
+                for each in problems_of(with_slots)])
             if file is None:
                 self._board.put("file", None)
                 return
             asked = [fixture for fixture in found if fixture.info is not None or fixture.notes]
             differences = (*missing(file.rows, found, [], SILENT), *changed(file.rows, asked),
-                           *crowded(file.rows, found))
+                           *crowded(file.rows, with_slots))
             self._board.put("file", {**self._about, "differences": [
                 {"kind": each.kind, "uid": str(each.uid), "label": each.label,
                  # Of a device that is missing, what the last discovery shows.
-                 "text": self._rig.reasons.get(each.uid, each.text) if each.kind == MISSING else text_of(each)}
+                 "text": self._rig.reasons.get(each.uid, each.text) if each.kind == MISSING else self._text(each)}
                 for each in differences]})
 
-
-def text_of(found: Difference) -> str:
-    """What differs: what there is, and then what the file says."""
-    keys = found.keys
-    if found.kind not in KINDS.values():
-        return found.text
-    name = "at" if keys["column"] == ADDRESS else keys["column"]
-    return f"{name} {keys['after'] or 'empty'}, file says {keys['before'] or 'empty'}"
+    def _text(self, found: Difference) -> str:
+        """What differs: what there is, and then what the file says."""
+        if found.kind not in KINDS.values():
+            return found.text
+        column = found.keys["column"]
+        now, planned = (self._rig.value_text(found.uid, column, found.keys[name]) for name in ("after", "before"))
+        return f"{'at' if column == ADDRESS else column} {now}, file says {planned}"
 
 
 def row_of(fixture: Fixture) -> Dict[str, str]:

@@ -55,10 +55,11 @@ class Entry:
 
 @dataclass
 class Plan:
-    """Changes that are to be made, what would be wrong after them, and what was made of them, for a page."""
+    """Changes to make, what would be wrong after them, which overlaps they end, and what was made, for a page."""
 
     changes: List[str]
     problems: List[str]
+    solved: List[str]
     made: int = 0
     failures: List[str] = field(default_factory=list)
 
@@ -86,6 +87,11 @@ class Rig:
     def fixtures(self) -> List[Fixture]:
         """Those that the last discovery found, as far as they were asked."""
         return [entry.fixture for entry in self._those(lambda each: not each.missing)]
+
+    def with_slots(self) -> List[Fixture]:
+        """All that are known: one that is missing keeps its slots. Each is labelled as pages name it."""
+        return [replace(each.fixture, label=(each.fixture.label or each.fixture.model or "")
+                        + (" (missing)" if each.missing else "")) for each in self._those(lambda each: True)]
 
     def entry(self, uid: Uid) -> Entry:
         """A device that the page knows. Raises Failure."""
@@ -240,8 +246,11 @@ class Rig:
                ) -> Plan:
         """Makes changes, those of a device in their order, unless slots would overlap or end after the last one."""
         # As `apply` sees it.
-        problems = problems_after(self.fixtures(), moved_by(changes), partial(self._changed, changes))
-        plan = Plan([self._text(change) for change in changes], [each.text_after for each in problems])
+        found, moved = self.with_slots(), moved_by(changes)
+        problems = problems_after(found, moved, partial(self._changed, changes))
+        plan = Plan([self._text(change) for change in changes], [each.text_after for each in problems],
+                    [f"{each.fixture.label} {each.slots_text}" for each in problems_after(found, moved, lambda now: now)
+                     if each.devices not in [other.devices for other in problems]])
         if is_dry or (plan.problems and not is_forced):
             return plan
         for change, end in [(each, self.hands.do(str(each.uid), partial(self._make, each, is_undo)))
@@ -279,8 +288,18 @@ class Rig:
     def _text(self, change: Change) -> str:
         """A change, for a page."""
         fixture = self.entries[change.uid].fixture if change.uid in self.entries else Fixture(change.uid)
-        before, after = (text or "empty" for text in (change.before, change.after))
-        return f"{fixture.label or fixture.model or ''} ({change.uid}): {change.column} {before} → {after}".lstrip()
+        return f"{fixture.label or fixture.model or ''} ({change.uid}): {self._values_text(change)}".lstrip()
+
+    def _values_text(self, change: Change) -> str:
+        """The same without the device."""
+        before, after = (self.value_text(change.uid, change.column, each) for each in (change.before, change.after))
+        return f"{change.column} {before} → {after}"
+
+    def value_text(self, uid: Uid, column: str, value: object) -> str:
+        """A value for pages. Personalities have their names and slots, if these are known."""
+        known = self._personalities.get(self.entries[uid].model, []) if uid in self.entries else []
+        return next((f"{value} {each['name']}, {each['slots']} slot{'s' * (each['slots'] != 1)}" for each in known
+                     if column == PERSONALITY and str(each["number"]) == str(value)), str(value or "empty"))
 
     def _changed(self, changes: Sequence[Change], fixture: Fixture) -> Fixture:
         """A device as it will be. With a personality that isn't known it has no slots."""
@@ -294,7 +313,8 @@ class Rig:
         """These changes can be taken back, the last one first."""
         self._undos = undos[-MOST_UNDOS:]
         self._board.put("undo", {"text": undos[-1].text, "back": self._text(reverse(undos[-1])),
-                                 "count": len(self._undos)} if undos else None)
+                                 "count": len(self._undos), "uid": str(undos[-1].uid),
+                                 "made": self._values_text(undos[-1])} if undos else None)
 
     def undo(self, text: str = "", force: bool = False) -> Plan:
         """Takes the last change back, unless slots would overlap or end after the last one. Raises Failure if that

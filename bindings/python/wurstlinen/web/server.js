@@ -29,10 +29,8 @@ export async function call(name, keys = {}) {
 
 function take(text) {
     const found = JSON.parse(text.slice("data: ".length));
-    if (found.role) {
-        // These are all that there are.
-        parts.clear();
-    }
+    // With the role come all parts that there are.
+    found.role && parts.clear();
     Object.entries(found).forEach(([name, value]) => (value === null ? parts.delete(name) : parts.set(name, value)));
     lost = "";
 }

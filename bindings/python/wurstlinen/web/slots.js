@@ -1,8 +1,8 @@
 // The universe as 512 slots: who has which. Fixtures are moved by drag, or by keys.
-
 import { act, addressOf, draw, redraw } from "/app.js";
 import { classes, isTouched, make } from "/dom.js";
-import { nameOf, problemOf, slotsOf } from "/fixtures.js";
+import { alarm } from "/discovery.js";
+import { nameOf, placedNameOf, problemOf, slotsOf } from "/fixtures.js";
 import { fixtureOf, maySend, parts, partsOf } from "/server.js";
 
 const LAST = 512;
@@ -12,13 +12,14 @@ const isNarrow = matchMedia("(max-width: 700px)");
 const width = () => (isNarrow.matches ? 16 : 32);
 const rowOf = (slot) => Math.ceil(slot / width());
 const areaOf = (from, to) => `grid-area: ${rowOf(from)} / ${(from - 1) % width() + 1} / auto / span ${to - from + 1};`;
+const mayMove = (uid) => maySend() && !fixtureOf(uid)?.missing;
 // The fixture that is being moved, and where it is now.
 let moving = null;
 
 // The fixtures that have slots, by address. Those that share slots are in lanes, one below another.
 function placed() {
     const ends = [];
-    const all = partsOf("fixture/").filter((found) => found.first && !found.missing)
+    const all = partsOf("fixture/").filter((found) => found.first)
         .sort((one, other) => one.first - other.first || (one.uid < other.uid ? -1 : 1));
     return all.map((found) => {
         const free = ends.findIndex((end) => end < found.first), lane = free < 0 ? ends.length : free;
@@ -28,22 +29,18 @@ function placed() {
 }
 
 // How many fixtures have each slot; parts of one device may share slots.
-function ownersOf(fixtures) {
-    return Array.from({ length: LAST }, (_, at) => new Set(fixtures.filter(({ first, last }) =>
-        first <= at + 1 && at + 1 <= last).map(({ root }) => root)).size);
-}
+const ownersOf = (fixtures) => Array.from({ length: LAST }, (_, at) => new Set(fixtures.filter(({ first, last }) =>
+    first <= at + 1 && at + 1 <= last).map(({ root }) => root)).size);
 
 function move(uid, to) {
     const { first, last } = fixtureOf(uid), size = last - first + 1;
     const start = Math.min(Math.max(to, 1), LAST + 1 - Math.min(size, LAST));
-    moving = { uid, first: start, last: start + size - 1, lane: 0 };
-    draw();
+    draw(moving = { uid, first: start, last: start + size - 1, lane: 0 });
 }
 
 async function finish(isWanted) {
     const { uid, first } = moving ?? {};
-    moving = null;
-    draw();
+    draw(moving = null);
     if (isWanted && uid && first !== fixtureOf(uid)?.first) {
         await act("change", { uid, column: "address", value: String(first) },
             `${nameOf(fixtureOf(uid))} moved to ${first}.`);
@@ -52,20 +49,17 @@ async function finish(isWanted) {
 
 function hint(fixtures) {
     const before = fixtureOf(moving?.uid);
-    if (!before) {
-        return HELP;
-    }
-    const others = fixtures.filter((each) => each.root !== before.root && each.first <= moving.last
-        && each.last >= moving.first);
-    return `${nameOf(before)}: ${slotsOf(before)} → ${slotsOf(moving)}, `
-        + (others.length ? `overlaps ${others.map(nameOf).join(", ")}` : "free");
+    const others = fixtures.filter((each) => before && each.root !== before.root && each.first <= moving.last
+        && each.last >= moving.first).map(placedNameOf).join(", ");
+    return before ? `${nameOf(before)}: ${slotsOf(before)} → ${slotsOf(moving)}, `
+        + (others ? `overlaps ${others}` : "free") : maySend() ? HELP : "";
 }
 
 function keyed(event) {
     const { uid } = event.target.dataset, now = moving?.uid === uid ? moving.first : fixtureOf(uid)?.first;
     const steps = { ArrowLeft: now - 1, ArrowRight: now + 1, ArrowUp: now - width(), ArrowDown: now + width(), Home: 1,
         End: LAST };
-    if (event.key in steps && maySend()) {
+    if (event.key in steps && mayMove(uid)) {
         event.preventDefault();
         move(uid, steps[event.key]);
     } else if (moving && ["Enter", "Escape"].includes(event.key)) {
@@ -80,7 +74,7 @@ const slotAt = ({ clientX, clientY }) => Number(document.elementsFromPoint(clien
 function dragged(event) {
     const { uid } = event.target.dataset;
     // On a phone a finger scrolls, unless the fixture was selected before.
-    if (!uid || !maySend() || (event.pointerType === "touch" && document.activeElement?.dataset.uid !== uid)) {
+    if (!uid || !mayMove(uid) || (event.pointerType === "touch" && document.activeElement?.dataset.uid !== uid)) {
         return;
     }
     const within = slotAt(event) - fixtureOf(uid).first, over = new AbortController(), { signal } = over;
@@ -93,17 +87,17 @@ function dragged(event) {
 
 // The parts of a fixture in the rows of the grid. The first one is the fixture for keys and for who listens.
 function piecesOf(found, owners) {
-    const { uid, first, last, lane } = found, end = Math.min(last, LAST), pieces = [];
+    const { uid, first, last, lane, missing } = found, end = Math.min(last, LAST), pieces = [];
     for (let from = first; from <= end; from = rowOf(from) * width() + 1) {
         const to = Math.min(end, rowOf(from) * width()), isFirst = from === first;
         const isCrowded = owners.slice(from - 1, to).some((count) => count > 1);
         const attributes = { key: `${uid} ${pieces.length}`, "data-uid": uid,
-            title: `${nameOf(found)}, ${slotsOf(found)}`,
-            class: classes("piece", isCrowded && "crowded", moving?.uid === uid && "moving"),
+            title: `${placedNameOf(found)}, ${slotsOf(found)}`,
+            class: classes("piece", missing && "away", isCrowded && "crowded", moving?.uid === uid && "moving"),
             style: `${areaOf(from, to)} --lane: ${lane}` };
         pieces.push(isFirst ? make("button", { ...attributes, type: "button", onblur: redraw, "aria-label":
-            `${nameOf(found)}, slots ${first} to ${last}${isCrowded ? ", overlaps another" : ""}` }, nameOf(found))
-            : make("div", { ...attributes, "aria-hidden": "true" }, `… ${nameOf(found)}`));
+            `${placedNameOf(found)}, slots ${first} to ${last}${isCrowded ? ", overlaps another" : ""}` },
+        placedNameOf(found)) : make("div", { ...attributes, "aria-hidden": "true" }, `… ${placedNameOf(found)}`));
     }
     return pieces;
 }
@@ -113,9 +107,9 @@ export function view() {
     const crowded = owners.filter((each) => each > 1).length, free = owners.filter((each) => !each).length;
     const problems = (parts.get("problems") ?? []).map((each) => [fixtureOf(each.uid), problemOf(each, each.uid)]);
     const opened = ({ target: { dataset: { uid } } }) => uid && (location.hash = addressOf("fixture", uid));
-    return [make("p", {}, `${free} slots are free${crowded ? `, ${crowded} shared` : ""}.`),
+    return [alarm(), make("p", {}, `${free} slots are free${crowded ? `, ${crowded} shared` : ""}.`),
         make("ul", { class: "problems" }, problems.map(([found, text]) =>
-            make("li", {}, `${found ? `${nameOf(found)} ${slotsOf(found)}` : ""} ${text}`))),
+            make("li", {}, `${found ? `${placedNameOf(found)} ${slotsOf(found)}` : ""} ${text}`))),
         make("div", { class: "universe", role: "group", "aria-label": "512 slots", style: `--columns: ${width()}`,
             onkeydown: keyed, onpointerdown: dragged, ondblclick: opened },
         owners.map((count, at) => make("i", { class: classes(count > 1 && "crowded"), style: areaOf(at + 1, at + 1) },
