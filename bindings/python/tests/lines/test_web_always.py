@@ -190,8 +190,7 @@ class Always(BrowserTestCase):
                     (each) => each.checkVisibility() && !each.disabled && !each.dataset.uid
                     && !each.closest('th') && each.type !== 'search' && !each.matches('.narrow'))
                     .map((each) => each.innerText)""")
-                own = {"file": ["Save as CSV"], f"fixture/{LEFT}": ["‹ Previous", "Next ›"]}
-                self.assertEqual(able, own.get(view, []), view)
+                self.assertEqual(able, ["‹ Previous", "Next ›"] if "/" in view else [], view)
                 if "/" in view:
                     self.assertIn("shown once a page that isn't view only opens it", seen.texts(".sensors")[0])
             self.assertEqual(rig.exchanges, before)

@@ -75,12 +75,10 @@ class Strangers(TestCase):
                 parts = events.until(lambda parts: f"fixture/{LEFT}" in parts)
                 self.assertEqual(parts["role"], "looks")
             headers = {"Authorization": f"Bearer {web.tokens.looking}"}
-            for name in ("change", "undo", "identify", "forget", "show", "set", "discover", "pause", "load",
+            for name in ("change", "undo", "identify", "forget", "show", "set", "discover", "pause", "save", "load",
                          "unload", "apply"):
                 self.assertEqual(web.ask("POST", f"/api/{name}", b"{}", headers), (
                     403, b"this address is view only"), name)
-            # What pages show can be saved: that changes nothing.
-            self.assertEqual(web.ask("POST", "/api/save", b"{}", headers)[0], 200)
             self.assertEqual(rig.exchanges, before)
 
     def test_other_names_and_sites(self) -> None:

@@ -2,7 +2,7 @@
 import { act, asked, say } from "/app.js";
 import { button, classes, make, plural } from "/dom.js";
 import { differencesOf, linked } from "/fixtures.js";
-import { lost, maySend, mayUse, parts } from "/server.js";
+import { maySend, mayUse, parts } from "/server.js";
 
 async function save() {
     const answer = await asked("save");
@@ -50,7 +50,7 @@ function differences(file) {
 
 export function view() {
     const file = parts.get("file"), disabled = !mayUse();
-    return [make("div", { class: "tools" }, button("Save as CSV", save, { disabled: Boolean(lost) }),
+    return [make("div", { class: "tools" }, button("Save as CSV", save, { disabled }),
         button(`Compare with ${file ? "another" : "a saved"} file …`, ({ target }) => target.nextSibling.click(),
             { disabled }),
         make("input", { type: "file", accept: ".csv,.txt,.tsv,text/csv", id: "chooser", hidden: true, onchange: load }),
