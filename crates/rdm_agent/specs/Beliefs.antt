@@ -154,7 +154,7 @@ abbrev pub begin_again : Belief → Belief
 begin_again b = record b { at = b.lo; quiet = 0; begun = min (b.begun + 1) 4 }
 
 -- A UID is given up, since its range answers and can't be searched. The sweep goes on above it, and doesn't look back
--- to it in this pass. If it was asked alone because it was spelt, the search goes on where it was
+-- to it in this pass. If it was asked alone because it was spelt, it just isn't asked alone any more
 abbrev pub give_up : ℕ → Belief → Belief
 give_up u b =
     if asks_spelt b.alone then unasked b
@@ -236,7 +236,7 @@ rest_silent b = record (begin_again b) { need = if (b.begun == 0) && (b.level ==
 abbrev pub end_silent : Belief → Belief
 end_silent b = if b.quiet == 0 then record b { quiet = 1 } else give_up b.end b
 
--- it was answered badly alone, so its silences aren't in a row
+-- any UID that was answered badly alone: silences aren't in a row
 abbrev pub end_answered : Belief → Belief
 end_answered b = if is_alone b.alone then record b { quiet = 0 } else b
 
@@ -362,7 +362,7 @@ convinced b = if b.doubt == 0 then b else record b { doubt = 0; level = b.level 
 abbrev pub fresh_apart : Span → Belief → Belief
 fresh_apart r b = split_at b.at 0 b.back r b
 
--- after a collision in this part and range, which had been silent so often in a row, wherever the search goes on
+-- after a collision in this part and range, which had been silent so often in a row, whichever UIDs were spelt
 abbrev pub part_apart : Part → Span → ℕ → Belief → Belief
 part_apart Fresh r silences b = if is_doubted b then doubting b else fresh_apart r (convinced b)
 part_apart Lower r silences b = if is_doubted b then doubting b else lower_apart r (convinced b)
@@ -373,16 +373,16 @@ part_apart End r silences b = b
 part_apart Apart r silences b = b
 part_apart Spelt r silences b = b
 
--- SPELT IN SPITE OF MUTES. If a range spells a UID for the fourth time in a row, its device breaks the rules, or
--- colliding replies spell it. So the UID is asked alone next. After four bad answers it is set apart. After a silence
--- the search goes on where it was
+-- SPELT IN SPITE OF MUTES. If a range spells a UID for the fourth time in a row, its device breaks the rules, its mutes
+-- were lost, or colliding replies spell it. So the UID is asked alone next. After four bad answers it is set apart,
+-- unless no device may have it, or 16 are. After a silence it isn't asked alone any more
 
 -- whether the UID that was spelt last is in this range
 abbrev pub is_spelt_within : Option ℕ → Span → Bool
 is_spelt_within None r = false
 is_spelt_within (Some u) r = is_within r.lo r.hi u
 
--- whether the UID that was spelt last was just read in this range, for the fourth time in a row
+-- whether the UID that was spelt last is in this range, was read four times in a row, and wasn't asked alone for it yet
 abbrev pub is_spelt_often : Span → Belief → Bool
 is_spelt_often r b = (b.times == 4) && ((b.due == 4) && is_spelt_within b.spelt r)
 
@@ -390,7 +390,7 @@ is_spelt_often r b = (b.times == 4) && ((b.due == 4) && is_spelt_within b.spelt 
 abbrev pub asking_spelt : Belief → Belief
 asking_spelt b = record b { alone = alone.Spelt; due = 8 }
 
--- the same, and a UID that it has spelt too often is asked alone first
+-- after a collision in this part and range, as before, but a UID of the range that was spelt often is asked alone first
 abbrev pub believed_apart : Part → Span → ℕ → Belief → Belief
 believed_apart part r silences b =
     if is_spelt_often r b then asking_spelt (part_apart part r silences b) else part_apart part r silences b

@@ -123,7 +123,7 @@ pub(crate) struct Belief {
     pub(crate) spelt: Option<Uid>,
     /// How often in a row it was read: 2^20 at most.
     pub(crate) times: u32,
-    /// With which reading it is due: the first, the second, the fourth, the eighth ..
+    /// The number of readings in a row at which it is looked at next: the first, the second, the fourth, the eighth ..
     pub(crate) due: u32,
     /// Whether any branch was silent.
     pub(crate) hushed: bool,
@@ -232,7 +232,8 @@ impl Belief {
         }
     }
 
-    /// After a silence. If the range was asked again after a bad answer, only a second silence is believed.
+    /// After a silence. A UID that was asked because it was spelt isn't asked alone any more. If the range was asked
+    /// again after a bad answer, only a second silence is believed.
     pub(crate) fn silent(self, asked: Question) -> Belief
         requires small { IsSmall self }
         ensures value { result ≡ believed_silent asked.part asked.range self }
@@ -304,7 +305,7 @@ impl Belief {
     }
 
     /// This UID is given up, since its range answers and can't be searched. If it was asked alone because it was spelt,
-    /// the search goes on where it was.
+    /// it just isn't asked alone any more.
     pub(crate) fn give_up(self, uid: Uid) -> Belief
         requires small { IsSmall self }
         ensures value { result ≡ give_up uid self }

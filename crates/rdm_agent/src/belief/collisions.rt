@@ -27,7 +27,7 @@ impl Belief {
         belief
     }
 
-    // The same, wherever the search goes on. What was asked has two devices, but if noise is likely it is asked again
+    // The same, whichever UIDs were spelt. What was asked has two devices, but if noise is likely it is asked again
     // first.
     fn part_apart(self, asked: Question, silences: u8) -> Belief
         requires small { IsSmall self }
