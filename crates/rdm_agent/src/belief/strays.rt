@@ -99,8 +99,8 @@ impl Belief {
         }
     }
 
-    /// Whether the UID that was spelt last is in this range, was read four times in a row, and wasn't asked alone for it
-    /// yet.
+    /// Whether the UID that was spelt last is in this range, was read four times in a row, and wasn't asked alone for
+    /// it yet.
     pub(super) fn is_spelt_often(&self, range: UidRange) -> bool
         ensures { result ≡ is_spelt_often range self.now }
     {
