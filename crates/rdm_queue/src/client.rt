@@ -265,12 +265,3 @@ impl MadeWith<Global> for Client {
         }
     }
 }
-
-/// Whether the number is at most this one.
-pub(crate) fn is_at_most(number: u64, most: u64) -> bool
-    ensures at_most { result ≡ true → number ≤ most }
-    ensures above { result ≡ false → most < number }
-    ensures fits { number ≤ 18446744073709551615 }
-{
-    number <= most
-}

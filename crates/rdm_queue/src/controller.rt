@@ -11,6 +11,7 @@ use rdm_log::{
 };
 use rdm_wire::{DeviceSet, Frame, NoMemory, Request, Uid};
 use std::alloc::Global;
+use std::collections::VecDeque;
 use std::marker::Model;
 
 /// The queue of the requests and discoveries of up to sixteen clients on one RDM line. One request is sent at a time,
@@ -63,7 +64,12 @@ impl Controller {
         requires { IsConfig (S.setup_of setup).config }
         ensures { IfOk result (IsSetUp (S.setup_of setup)) }
     {
-        match Box::new(alloc, Queue::new(alloc, setup.into_setup())) {
+        let setup = setup.into_setup();
+        let places = usize::from(setup.config.places);
+        let Ok(owners) = VecDeque::with_capacity(alloc, places) else {
+            return Err(NoMemory);
+        };
+        match Box::new(alloc, Queue::new(alloc, setup, owners)) {
             Ok(queue) => Ok(Controller { queue }),
             Err(_) => Err(NoMemory),
         }

@@ -4,15 +4,15 @@
 //! # What calls cost
 //!
 //! A [`Controller`] keeps three rings for each client: its unfinished requests, its uncollected outcomes, and the sets
-//! of devices of the discoveries among these. The oldest request of all is the one with the lowest number among the
-//! clients' oldest requests.
+//! of devices of the discoveries among these. A further ring has the client of each unfinished request, oldest first.
+//! So the client with the oldest request is known, and not looked for.
 //!
-//! - `take` and `deliver` look at the clients' oldest requests, 16 at most; `submit` and the calls that collect look at
-//!   one client. So none of them takes longer if more requests wait.
+//! - `submit`, `take`, `deliver` and the calls that collect look at one client. So none of them takes longer if more
+//!   requests wait, or if there are more clients.
 //! - `next_completion` moves no set of devices. `next_discovery` copies one into the caller's, or exchanges its box for
 //!   the caller's. `next_outcome` returns a value that could hold a set, 32 KB, even for a request. `answer` and `run`
 //!   move no set for a request, and allocate memory for the set of each discovery that is collected.
-//! - `close`, and the reply after it, look at the clients' oldest requests once for each request that they finish.
+//! - `close`, and the reply after it, look at one client for each request that they finish.
 //! - When a run ends, its set is copied for each discovery that it answers. Without a fault it is also copied once for
 //!   `devices`.
 //! - `join_client` adds up the queue depths of the clients, 16 at most, and reserves the memory of the client's rings

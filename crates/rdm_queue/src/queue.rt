@@ -1,12 +1,12 @@
 //! The requests and discoveries that wait, the run that serves these, and the outcomes that wait for their clients.
 ghost use Rattle.std.specs.Prelude.{◌≡◌, ◌≤◌, length, IfSome, IfNone, Some, None, if◌then◌else◌};
 ghost use Rattle.rdm_log.specs.declared.fault.WorkFault.TheVariants.{Full};
-ghost use Rattle.rdm_queue.specs.body.Rings.{NoneWaits, IsFirstInLine, value_shown};
+ghost use Rattle.rdm_queue.specs.body.Rings.{value_shown};
 ghost use Rattle.rdm_queue.specs.body.Fields.{places_of};
 
 mod ending;
 
-use crate::client::{Client, Waiting, is_at_most};
+use crate::client::{Client, Waiting};
 use crate::oldest::Oldest;
 use crate::pending::{Asked, Awaited, Running};
 use crate::takes_devices::TakesDevices;
@@ -19,6 +19,7 @@ use rdm_log::{
 };
 use rdm_wire::{DeviceSet, Frame, Request, Uid, UidSet, encode_request};
 use std::alloc::Global;
+use std::collections::VecDeque;
 use std::marker::Model;
 
 /// How many discoveries all clients together have outstanding, at most.
@@ -33,6 +34,8 @@ pub(crate) struct Queue {
     search: Search,
     /// The clients, each with the rings of what it has outstanding.
     clients: ArrayVec<Client, MOST_CLIENTS, Global>,
+    /// The client of each unfinished request, oldest first.
+    owners: VecDeque<u8>,
     paused: bool,
     closed: bool,
     next_request: u64,
@@ -65,17 +68,20 @@ impl Model for Queue {
     ghost Value = { QueueState };
 
     ghost use Rattle.rdm_queue.specs.body.Fields.{state_of};
-    ghost use Rattle.rdm_queue.specs.body.QueueInvariant.{QueueInvariant};
+    ghost use Rattle.rdm_queue.specs.body.QueueInvariant.{QueueInvariant, AreOwners};
+    ghost use Rattle.std.specs.VecDeque.{deque_capacity};
 
     ghost view = { state_of };
 
-    ghost invariant = { λ c. QueueInvariant (state_of c) c.clients.items };
+    ghost invariant = { λ c. QueueInvariant (state_of c) c.clients.items
+        × AreOwners (state_of c).waiting c.config.places c.owners.items (deque_capacity c.owners) };
 }
 
 impl Queue {
     ghost use Rattle.std.specs.Prelude.{◌≡◌, ◌<◌, ◌+◌, ◌-◌, ◌*◌, ◌++◌, ◌∷◌, [], ℕ, Bool, ◌==◌, ◌&&◌, false, true, List};
     ghost use Rattle.std.specs.Prelude.{length, drop, sum, map, IfOk, IfErr, IfSome, IfNone, OnOk, OnErr, OnSome};
     ghost use Rattle.std.specs.Prelude.{Some, None};
+    ghost use Rattle.std.specs.VecDeque.{deque_capacity};
     ghost use Rattle.std.specs.Prelude.{is_some, option_map, slice_get, if◌then◌else◌, ◌≢◌, ◌≤◌};
     ghost use Rattle.rdm_wire.specs.Devices.{uids_of};
     ghost use Rattle.std.specs.List.{AllByRecursion};
@@ -96,15 +102,18 @@ impl Queue {
     ghost use Rattle.rdm_queue.specs.body.Sending.{GivesRun, begun, kind_of};
     ghost use Rattle.rdm_queue.specs.promises.Oldest.{flag_shown};
 
-    /// A queue without clients, neither paused nor closed, whose numbers begin at 0.
-    pub(crate) fn new(alloc: Global, setup: Setup) -> Queue
-        requires { IsConfig setup.config }
+    /// A queue without clients, neither paused nor closed, whose numbers begin at 0. The ring for its owners is empty.
+    pub(crate) fn new(alloc: Global, setup: Setup, owners: VecDeque<u8>) -> Queue
+        requires config_is { IsConfig setup.config }
+        requires empty { owners.items ≡ [] }
+        requires room { deque_capacity owners ≡ setup.config.places }
         ensures { result ≡ first_state setup }
     {
         Queue {
             config: setup.config,
             search: setup.search,
             clients: ArrayVec::new_in(alloc),
+            owners,
             paused: false,
             closed: false,
             next_request: 0,
@@ -229,6 +238,7 @@ impl Queue {
     {
         let number = self.next_request;
         self.clients[usize::from(client.0)].accept(number, request);
+        self.owners.push_back_reserved(client.0);
         self.next_request = number + 1;
         number
     }
@@ -363,7 +373,9 @@ impl Queue {
     fn oldest(&self) -> Option<(usize, &Waiting)>
         ensures { option_map (λ found. accepted_is found.0 found.1.now) result ≡ slice_get self.now.waiting 0 }
     {
-        first_in_line(&self.clients)
+        let at = usize::from(*self.owners.front()?);
+        let oldest = self.clients.get(at)?.oldest()?;
+        Some((at, oldest))
     }
 
     /// A look at a client's oldest outcome.
@@ -561,25 +573,6 @@ fn full_if(is_full: bool) -> Option<WorkFault>
     ensures { result ≡ (if is_full then Some Full else None) }
 {
     if is_full { Some(WorkFault::Full) } else { None }
-}
-
-// The next in line: of the clients' oldest requests the one with the lowest number, and the index of its client.
-fn first_in_line(clients: &[Client]) -> Option<(usize, &Waiting)>
-    ensures none { IfNone result (NoneWaits clients.now) }
-    ensures first { IfSome result (λ found. IsFirstInLine clients.now found.0 found.1.now) }
-{
-    let mut first: Option<(usize, &Waiting)> = None;
-    let mut lowest = u64::MAX;
-    for (at, client) in clients.iter().enumerate() {
-        let Some(oldest) = client.oldest() else {
-            continue;
-        };
-        if is_at_most(oldest.number, lowest) {
-            lowest = oldest.number;
-            first = Some((at, oldest));
-        }
-    }
-    first
 }
 
 // The queue depth of each client, in the order of joining.

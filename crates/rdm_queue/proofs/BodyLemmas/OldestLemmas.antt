@@ -1,45 +1,17 @@
--- Of the requests that are first in their rings, the one with the lowest number is the oldest.
-use Rattle.rdm_queue.proofs.Common.{◌≡◌, ℕ, zero, suc, ◌+◌, ◌<◌, ◌≤◌, true, false, List, [], ◌∷◌, length, get_or}
-use Rattle.rdm_queue.proofs.Common.{Option, Some, None, slice_get, refl, sym, ap, ◌∙◌, inl, inr, filter, map, arith}
-use Rattle.rdm_queue.proofs.Common.{◌⊎◌, ◌==◌, IfSome, IfNone, option_map, deque_len, AllByRecursion, cases_Bool}
-use Rattle.rdm_queue.proofs.Common.{cases_lt, eq-eqb, IsAscending, Client, Waiting, Accepted, AreShares, accepted_is}
+-- The oldest request is first in its client's ring, and its client is the first of the owners.
+use Rattle.rdm_queue.proofs.Common.{◌≡◌, ℕ, zero, suc, ◌<◌, ◌≤◌, List, [], ◌∷◌, ◌++◌, length, get_or}
+use Rattle.rdm_queue.proofs.Common.{drop, map-append, length-append, length-map, Request, accepts_request, accepted_as}
+use Rattle.rdm_queue.specs.body.QueueInvariant.{AreOwners}
+use Rattle.rdm_queue.proofs.BodyLemmas.OutstandingLemmas.{waiting-le}
+use Rattle.rdm_queue.proofs.Common.{Some, None, slice_get, refl, sym, ap, ◌∙◌, inl, inr, map, arith}
+use Rattle.rdm_queue.proofs.Common.{◌⊎◌, deque_len}
+use Rattle.rdm_queue.proofs.Common.{cases_lt, eq-eqb, Client, Waiting, Accepted, AreShares, accepted_is}
 use Rattle.rdm_queue.proofs.Common.{waiting_ring, waiting_rings, QueueInvariant, QueueState, index_within}
-use Rattle.std.specs.Borrow.{Bor}
-use Rattle.rdm_queue.specs.body.Rings.{OldestOf, NoneWaits, IsFirstInLine}
-use Rattle.rdm_queue.proofs.BodyLemmas.InvariantLemmas.{waiting_rises}
-use Rattle.rdm_queue.proofs.BodyLemmas.MergedLemmas.{all_passed}
 use Rattle.rdm_queue.proofs.BodyLemmas.RingLemmas.{ring_of, ring_past}
 
--- the first of a list of which something holds
-first_has : (P : ℕ → Type 0) (xs : List Accepted) (a : Accepted)
-    → AllByRecursion P (map (λ (b : Accepted). b.number) xs) → slice_get xs 0 ≡ Some a → P a.number
-first_has P [] a all at = cc
-first_has P (x ∷ xs) a all at = let same : x ≡ a = cc in rw (← same) all.0
-
--- of shares of a rising list, the lowest first element is the list's first
-lowest_is_first : (lists : List (List Accepted)) (all : List Accepted)
-    → IsAscending (map (λ (b : Accepted). b.number) all) → AreShares (λ b. b.client) lists all
-    → (i : ℕ) (a : Accepted) → slice_get (get_or lists i []) 0 ≡ Some a
-    → ((j : ℕ) (b : Accepted) → slice_get (get_or lists j []) 0 ≡ Some b → a.number ≤ b.number)
-    → slice_get all 0 ≡ Some a
-lowest_is_first lists [] rising shares i a is_first lowest = sym (ap (λ l. slice_get l 0) (shares i)) ∙ is_first
-lowest_is_first lists (x ∷ all) rising shares i a is_first lowest = by_client (cases_Bool (i == x.client))
-  where
-    least : a.number ≤ x.number
-    least = lowest x.client x (ap (λ l. slice_get l 0) (shares x.client) ∙ rw (eq-eqb x.client x.client refl) refl)
-
-    at : slice_get (filter (λ (b : Accepted). i == b.client) (x ∷ all)) 0 ≡ Some a
-    at = sym (ap (λ l. slice_get l 0) (shares i)) ∙ is_first
-
-    by_client : ((i == x.client) ≡ true) ⊎ ((i == x.client) ≡ false) → Some x ≡ Some a
-    by_client (inl own) = rw own at at
-    by_client (inr other) =
-        absurd (no (first_has (λ n. x.number < n) (filter (λ (b : Accepted). i == b.client) all) a
-        (all_passed (λ (b : Accepted). b.number) (λ n. x.number < n) (λ (b : Accepted). i == b.client) all rising.0)
-        (rw other at at)))
-      where
-        no : x.number < a.number → ⊥
-        no more = omega (arith, least)
+-- client i's oldest request
+abbrev pub OldestOf : List Client → ℕ → Waiting → Type 0
+OldestOf clients i w = (k : Client) × (slice_get clients i ≡ Some k) × (slice_get k.waiting.items 0 ≡ Some w)
 
 -- the first in a client's ring is its oldest request
 pub record IsOwnOldest (clients : List Client) (j : ℕ) (b : Accepted) : Type 0 where
@@ -76,26 +48,6 @@ own_oldest clients j b at = by_length (cases_lt j (length clients))
         record { oldest = first.from; own = (found.0, found.1, first.at); is = first.is }
     by_length (inr past) = none (sym (ring_past waiting_ring clients j past))
 
-oldest_shown : (clients : List Client) (i : ℕ) (w : Waiting) → OldestOf clients i w
-    → slice_get (get_or (waiting_rings clients) i []) 0 ≡ Some (accepted_is i w)
-oldest_shown clients i w own =
-    ap (λ l. slice_get l 0) (ring_of waiting_ring clients i own.0 own.1) ∙ mapped own.0.waiting.items own.2
-  where
-    mapped : (ws : List Waiting) → slice_get ws 0 ≡ Some w
-        → slice_get (map (accepted_is i) ws) 0 ≡ Some (accepted_is i w)
-    mapped [] at = cc
-    mapped (v ∷ ws) at = let same : v ≡ w = cc in rw same refl
-
-pub first_is : (s : QueueState) (clients : List Client) (i : ℕ) (w : Waiting) → QueueInvariant s clients
-    → IsFirstInLine clients i w → slice_get s.waiting 0 ≡ Some (accepted_is i w)
-first_is s clients i w held first =
-    lowest_is_first (waiting_rings clients) s.waiting (waiting_rises s held.state) held.rings.waiting i
-    (accepted_is i w) (oldest_shown clients i w first.own) lowest
-  where
-    lowest : (j : ℕ) (b : Accepted) → slice_get (get_or (waiting_rings clients) j []) 0 ≡ Some b → w.number ≤ b.number
-    lowest j b at = let is_first = own_oldest clients j b at in rw is_first.is
-        (first.lowest j is_first.oldest is_first.own)
-
 -- a first request is its client's oldest
 oldest_at : (clients : List Client) (all : List Accepted) (a : Accepted)
     → AreShares (λ b. b.client) (waiting_rings clients) all → slice_get all 0 ≡ Some a → IsOwnOldest clients a.client a
@@ -108,23 +60,6 @@ oldest_at clients (x ∷ all) a shares at =
 pub oldest_of : (s : QueueState) (clients : List Client) (a : Accepted) → QueueInvariant s clients
     → slice_get s.waiting 0 ≡ Some a → IsOwnOldest clients a.client a
 oldest_of s clients a held at = oldest_at clients s.waiting a held.rings.waiting at
-
-pub none_is : (s : QueueState) (clients : List Client) → QueueInvariant s clients → NoneWaits clients
-    → slice_get s.waiting 0 ≡ None
-none_is s clients held none = by_list s.waiting refl
-  where
-    by_list : (all : List Accepted) → s.waiting ≡ all → slice_get all 0 ≡ None
-    by_list [] is = refl
-    by_list (x ∷ all) is =
-        let is_first = oldest_of s clients x held (ap (λ l. slice_get l 0) is) in
-        absurd (none x.client is_first.oldest is_first.own)
-
--- the first in line is the oldest request
-pub shown_first : (s : QueueState) (clients : List Client) (found : Option (ℕ × Bor Waiting)) → QueueInvariant s clients
-    → IfNone found (NoneWaits clients) → IfSome found (λ f. IsFirstInLine clients f.0 f.1.now)
-    → option_map (λ f. accepted_is f.0 f.1.now) found ≡ slice_get s.waiting 0
-shown_first s clients None held none first = sym (none_is s clients held none)
-shown_first s clients (Some f) held none first = sym (first_is s clients f.0 f.1.now held first)
 
 -- the client whose request is the oldest
 pub oldest_within : (s : QueueState) (clients : List Client) (at : ℕ) → QueueInvariant s clients → (a : Accepted)
@@ -142,100 +77,47 @@ some_waits s clients k a held oldest at =
     (rw same at is_first.own.2) in
     omega (arith, k.waiting.ok.0)
 
--- of the first n clients' oldest requests the one with the lowest number, if there is one
-abbrev pub IsFirstSoFar : List Client → ℕ → Option (ℕ × Bor Waiting) → Type 0
-IsFirstSoFar clients n None = (j : ℕ) (v : Waiting) → j < n → OldestOf clients j v → ⊥
-IsFirstSoFar clients n (Some found) =
-    OldestOf clients found.0 found.1.now
-    × ((j : ℕ) (v : Waiting) → j < n → OldestOf clients j v → found.1.now.number ≤ v.number)
+-- this client has the oldest request, as the first in its ring
+pub record IsFirstOwner (s : QueueState) (clients : List Client) (i : ℕ) : Type 0 where
+  pub client : Client
+  pub at : slice_get clients i ≡ Some client
+  pub oldest : Waiting
+  pub first : slice_get client.waiting.items 0 ≡ Some oldest
+  pub is : slice_get s.waiting 0 ≡ Some (accepted_is i oldest)
 
--- the number of the first so far, or the greatest one
-abbrev pub IsLowest : Option (ℕ × Bor Waiting) → ℕ → Type 0
-IsLowest None n = n ≡ 18446744073709551615
-IsLowest (Some found) n = n ≡ found.1.now.number
+-- the first of the owners has it
+pub first_owner : (s : QueueState) (clients : List Client) (owners : List ℕ) (room i : ℕ) → QueueInvariant s clients
+    → AreOwners s.waiting s.greatest owners room → slice_get owners 0 ≡ Some i → IsFirstOwner s clients i
+first_owner s clients owners room i held are at =
+    let mapped = first_mapped (λ (b : Accepted). b.client) s.waiting i (ap (λ l. slice_get l 0) (sym are.each) ∙ at) in
+    let own = oldest_of s clients mapped.from held mapped.at in
+    rw mapped.is record {
+      client = own.own.0;
+      at = own.own.1;
+      oldest = own.oldest;
+      first = own.own.2;
+      is = mapped.at ∙ ap (λ a. Some a) own.is;
+    }
 
--- one client more: it has no request, or one that is or isn't the first so far
-same_oldest : (clients : List Client) (n : ℕ) (k : Client) (v : Waiting) → slice_get clients n ≡ Some k
-    → OldestOf clients n v → slice_get k.waiting.items 0 ≡ Some v
-same_oldest clients n k v at own = let same : own.0 ≡ k = cc in rw (← same) own.2
+-- there is capacity for the owner of one request more, if the invariant holds with that
+pub owners_fit : (s : QueueState) (clients : List Client) (owners : List ℕ) (room c : ℕ) (request : Request)
+    → QueueInvariant (accepts_request s c request) clients → AreOwners s.waiting s.greatest owners room
+    → length owners < room
+owners_fit s clients owners room c request held are =
+    let most = waiting-le (accepts_request s c request) held.state in
+    let longer = length-append s.waiting (accepted_as s c request ∷ []) in
+    let same : length owners ≡ length s.waiting =
+    ap (λ l. length l) are.each ∙ length-map s.waiting (λ (b : Accepted). b.client) in
+    omega (arith, held.state.few_places, are.enough)
 
-below_or_last : (j n : ℕ) → j < n + 1 → (j < n) ⊎ (j ≡ n)
-below_or_last j n p = by_case (cases_lt j n)
-  where
-    by_case : (j < n) ⊎ (n ≤ j) → (j < n) ⊎ (j ≡ n)
-    by_case (inl q) = inl q
-    by_case (inr q) = inr (omega arith)
+-- the owners after a request was accepted, and after the oldest was finished
+pub owners_accept : (before : List Accepted) (a : Accepted) (xs ys : List ℕ)
+    → xs ≡ map (λ (b : Accepted). b.client) before → ys ≡ xs ++ a.client ∷ []
+    → ys ≡ map (λ (b : Accepted). b.client) (before ++ a ∷ [])
+owners_accept before a xs ys are more =
+    more ∙ (ap (λ l. l ++ a.client ∷ []) are ∙ sym (map-append (λ (b : Accepted). b.client) before (a ∷ [])))
 
-pub none_more : (clients : List Client) (n : ℕ) (k : Client) (first : Option (ℕ × Bor Waiting))
-    → slice_get clients n ≡ Some k → slice_get k.waiting.items 0 ≡ None → IsFirstSoFar clients n first
-    → IsFirstSoFar clients (n + 1) first
-none_more clients n k None at none so_far = λ j v p own. by_index j v own (below_or_last j n p)
-  where
-    by_index : (j : ℕ) (v : Waiting) → OldestOf clients j v → (j < n) ⊎ (j ≡ n) → ⊥
-    by_index j v own (inl q) = so_far j v q own
-    by_index j v own (inr q) = let here = same_oldest clients n k v at (rw q at own) in cc
-none_more clients n k (Some found) at none so_far = (so_far.0, λ j v p own. by_index j v own (below_or_last j n p))
-  where
-    by_index : (j : ℕ) (v : Waiting) → OldestOf clients j v → (j < n) ⊎ (j ≡ n) → found.1.now.number ≤ v.number
-    by_index j v own (inl q) = so_far.1 j v q own
-    by_index j v own (inr q) =
-        let here = same_oldest clients n k v at (rw q at own) in absurd (let no : None ≡ Some v = sym none ∙ here in cc)
-
-first_stays : (clients : List Client) (n : ℕ) (k : Client) (found : ℕ × Bor Waiting) (w : Waiting)
-    → slice_get clients n ≡ Some k → slice_get k.waiting.items 0 ≡ Some w → found.1.now.number < w.number
-    → IsFirstSoFar clients n (Some found) → IsFirstSoFar clients (n + 1) (Some found)
-first_stays clients n k found w at oldest less so_far = (so_far.0, λ j v p own. by_index j v own (below_or_last j n p))
-  where
-    by_index : (j : ℕ) (v : Waiting) → OldestOf clients j v → (j < n) ⊎ (j ≡ n) → found.1.now.number ≤ v.number
-    by_index j v own (inl q) = so_far.1 j v q own
-    by_index j v own (inr q) =
-        let here : Some v ≡ Some w = sym (same_oldest clients n k v at (rw q at own)) ∙ oldest in
-        let same : v ≡ w = cc in rw same (omega arith)
-
--- the first so far has no lower number than n, if there is one
-abbrev pub NoneLower : Option (ℕ × Bor Waiting) → ℕ → Type 0
-NoneLower None n = Unit {0}
-NoneLower (Some found) n = n ≤ found.1.now.number
-
-pub first_replaced : (clients : List Client) (n : ℕ) (k : Client) (first : Option (ℕ × Bor Waiting)) (w : Bor Waiting)
-    → slice_get clients n ≡ Some k → slice_get k.waiting.items 0 ≡ Some w.now → NoneLower first w.now.number
-    → IsFirstSoFar clients n first → IsFirstSoFar clients (n + 1) (Some (n, w))
-first_replaced clients n k first w at oldest lower so_far =
-    ((k, at, oldest), λ j v p own. by_index first lower so_far j v own (below_or_last j n p))
-  where
-    by_index : (first : Option (ℕ × Bor Waiting)) → NoneLower first w.now.number → IsFirstSoFar clients n first
-        → (j : ℕ) (v : Waiting) → OldestOf clients j v → (j < n) ⊎ (j ≡ n) → w.now.number ≤ v.number
-    by_index None lower so_far j v own (inl q) = absurd (so_far j v q own)
-    by_index (Some found) lower so_far j v own (inl q) = let least = so_far.1 j v q own in omega arith
-    by_index first lower so_far j v own (inr q) =
-        let here : Some v ≡ Some w.now = sym (same_oldest clients n k v at (rw q at own)) ∙ oldest in
-        let same : v ≡ w.now = cc in rw same (omega arith)
-
--- a number above the lowest one changes nothing, and any other one is the lowest
-pub none_lower : (first : Option (ℕ × Bor Waiting)) (lowest n : ℕ) → IsLowest first lowest → n ≤ lowest
-    → NoneLower first n
-none_lower None lowest n is le = tt
-none_lower (Some found) lowest n is le = rw is at le
-
-pub lowest_stays : (clients : List Client) (n : ℕ) (k : Client) (first : Option (ℕ × Bor Waiting)) (lowest : ℕ)
-    (w : Waiting) → slice_get clients n ≡ Some k → slice_get k.waiting.items 0 ≡ Some w → IsLowest first lowest
-    → lowest < w.number → w.number ≤ 18446744073709551615 → IsFirstSoFar clients n first
-    → IsFirstSoFar clients (n + 1) first
-lowest_stays clients n k None lowest w at oldest is less fits so_far = absurd (omega (arith, is))
-lowest_stays clients n k (Some found) lowest w at oldest is less fits so_far =
-    first_stays clients n k found w at oldest (rw is at less) so_far
-
--- after the last client
-pub all_none : (clients : List Client) (n : ℕ) (first : Option (ℕ × Bor Waiting)) → length clients ≤ n
-    → IsFirstSoFar clients n first → IfNone first (NoneWaits clients)
-all_none clients n None past so_far =
-    λ j v own. let within = index_within clients j own.0 own.1 in so_far j v (omega arith) own
-all_none clients n (Some found) past so_far = tt
-
-pub all_first : (clients : List Client) (n : ℕ) (first : Option (ℕ × Bor Waiting)) → length clients ≤ n
-    → IsFirstSoFar clients n first → IfSome first (λ found. IsFirstInLine clients found.0 found.1.now)
-all_first clients n None past so_far = tt
-all_first clients n (Some found) past so_far = record {
-  own = so_far.0;
-  lowest = λ j v own. let within = index_within clients j own.0 own.1 in so_far.1 j v (omega arith) own;
-}
+pub owners_finish : (before : List Accepted) (xs ys : List ℕ) → xs ≡ map (λ (b : Accepted). b.client) before
+    → ys ≡ drop 1 xs → ys ≡ map (λ (b : Accepted). b.client) (drop 1 before)
+owners_finish [] xs ys are rest = rest ∙ ap (λ l. drop 1 l) are
+owners_finish (a ∷ before) xs ys are rest = rest ∙ ap (λ l. drop 1 l) are

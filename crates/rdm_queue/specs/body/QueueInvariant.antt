@@ -3,6 +3,7 @@ use Rattle.std.specs.Prelude.{◌≡◌, ℕ, ◌+◌, ◌-◌, ◌≤◌, ◌<�
 use Rattle.std.specs.Prelude.{Option, Some, None, MatchOption}
 use Rattle.std.specs.List.{AllByRecursion}
 use Rattle.rdm_wire.specs.Uid.{IsDevice, IsAscending}
+use Rattle.rdm_log.specs.log.Entries.{Accepted}
 use Rattle.rdm_queue.specs.declared.client.Client.{Client}
 use Rattle.rdm_join.specs.JoinerStanding.{IsOpen}
 use Rattle.rdm_agent.specs.Calls.{next_op}
@@ -58,3 +59,8 @@ pub record RingsInvariant (s : QueueState) (clients : List Client) : Type 0 wher
 pub record QueueInvariant (s : QueueState) (clients : List Client) : Type 0 where
   pub state : StateInvariant s
   pub rings : RingsInvariant s clients
+
+-- These are the clients of the requests that wait, oldest first, in a ring for as many as the queue can hold.
+pub record AreOwners (waiting : List Accepted) (greatest : ℕ) (owners : List ℕ) (room : ℕ) : Type 0 where
+  pub each : owners ≡ map (λ a. a.client) waiting
+  pub enough : room ≡ greatest

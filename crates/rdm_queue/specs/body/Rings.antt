@@ -1,5 +1,5 @@
 -- A client's rings, and how its calls change them.
-use Rattle.std.specs.Prelude.{◌≡◌, ℕ, ◌+◌, ◌≤◌, Bool, true, false, List, [], ◌∷◌, ◌++◌, length, filter, Option, Some}
+use Rattle.std.specs.Prelude.{◌≡◌, ℕ, ◌+◌, Bool, true, false, List, [], ◌∷◌, ◌++◌, length, filter, Option, Some}
 use Rattle.std.specs.Prelude.{option_map, slice_get, map, drop}
 use Rattle.std.specs.VecDeque.{deque_capacity}
 use Rattle.rdm_wire.specs.declared.request.Request.{Request}
@@ -112,16 +112,3 @@ pub record ClientCollects (old : Client) (outcome : OutcomeValue) (new : Client)
   pub flags : client_flags new ≡ drop 1 (client_flags old)
   pub has_sets : HasSets new
   pub rings : SameRings old new
-
--- client i's oldest request
-abbrev pub OldestOf : List Client → ℕ → Waiting → Type 0
-OldestOf clients i w = (k : Client) × (slice_get clients i ≡ Some k) × (slice_get k.waiting.items 0 ≡ Some w)
-
--- no client has an unfinished request
-abbrev pub NoneWaits : List Client → Type 0
-NoneWaits clients = (i : ℕ) (w : Waiting) → OldestOf clients i w → ⊥
-
--- client i's oldest request is w, and no client's oldest has a lower number
-pub record IsFirstInLine (clients : List Client) (i : ℕ) (w : Waiting) : Type 0 where
-  pub own : OldestOf clients i w
-  pub lowest : (j : ℕ) (v : Waiting) → OldestOf clients j v → w.number ≤ v.number

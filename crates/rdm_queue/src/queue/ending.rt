@@ -249,6 +249,7 @@ impl Queue {
             .end(key, self.under_way, done.status, done.reply);
         self.joiner.reset();
         self.under_way = false;
+        self.owners.pop_front();
         self.clients[at].finish_oldest(done, may_be_incomplete)
     }
 }

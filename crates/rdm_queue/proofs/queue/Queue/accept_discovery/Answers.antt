@@ -8,6 +8,6 @@ push-requires c =
     let s : QueueState = state_of c.self.inside in
     let passes : first_ask_fault s c.args.client.0 ≡ None =
     rw (← c.self.view_is) at c.requires in
-    let room : length s.asked < 64 = room_to_ask s c.args.client.0 c.self.invariant.state passes in
+    let room : length s.asked < 64 = room_to_ask s c.args.client.0 c.self.invariant.0.state passes in
     let same = length-map c.self.inside.asked.items asked_is in
     omega arith

@@ -11,13 +11,13 @@ use Rattle.rdm_queue.proofs.queue.Queue.answer_served.Goals as goal
 oldest : (c : After-remove-asked)
     → slice_get (state_of c.self.inside).asked 0 ≡ Some (asked_is c.remove-asked.result)
 oldest c =
-    oldest_served c.self.inside c.remove-asked.result (run_is c.args.run.now) c.self.invariant
+    oldest_served c.self.inside c.remove-asked.result (run_is c.args.run.now) c.self.invariant.0
     (rw (← c.self.view_is) at c.requires) c.remove-asked.ensures.value
 
 pub bounds-deref_mut-from : goal.bounds-deref_mut-from
 bounds-deref_mut-from c =
     let within = asked_within (state_of c.self.inside) c.self.inside.clients.items (asked_is c.remove-asked.result)
-    (own_clients c.self.inside c.self.invariant) (oldest (goal.at.bounds-deref_mut-from c).After-remove-asked) in
+    (own_clients c.self.inside c.self.invariant.0) (oldest (goal.at.bounds-deref_mut-from c).After-remove-asked) in
     let same = ap (λ l. length l) c.deref_mut.ensures.value in
     let converted = c.from.ensures in
     omega arith
@@ -33,7 +33,7 @@ can : (c : After-found)
     → CanAnswer (state_of c.self.inside) c.self.inside.clients.items (asked c) (client c)
 can c =
     can_answer (state_of c.self.inside) c.self.inside.clients.items c.deref_mut.result.now (asked c) c.from.result
-    c.index-deref_mut-from.result (own_clients c.self.inside c.self.invariant)
+    c.index-deref_mut-from.result (own_clients c.self.inside c.self.invariant.0)
     (oldest (goal.at.answer-requires-clause-sets c).After-remove-asked) c.from.ensures c.deref_mut.ensures.value
 
 pub answer-requires-clause-sets : goal.answer-requires-clause-sets
@@ -56,9 +56,9 @@ answered : (c : goal.After-self-2-1)
 answered c =
     clients-answer (state_of c.self.inside) c.self.inside.clients.items c.from.result _ c.answer.new.self
     (asked_is c.remove-asked.result) c.args.run.now.number c.args.fault.now c.self.inside.agent.found
-    (one_less (run_is c.args.run.now)) (own_clients c.self.inside c.self.invariant)
+    (one_less (run_is c.args.run.now)) (own_clients c.self.inside c.self.invariant.0)
     (can (goal.at.returns c).After-found)
-    (serves_less (state_of c.self.inside) c.self.inside.clients.items (run_is c.args.run.now) c.self.invariant
+    (serves_less (state_of c.self.inside) c.self.inside.clients.items (run_is c.args.run.now) c.self.invariant.0
     (rw (← c.self.view_is) at c.requires))
     c.from.ensures (rw c.found.ensures.value at c.answer.ensures)
 
@@ -74,7 +74,7 @@ invariant_of-self c =
       are.flags,
       asked_rest c.self.inside.asked.items c.remove-asked.new.self.items c.remove-asked.ensures.items,
       c.one_less-self-inside.ensures,
-    ) are.kept
+    ) (are.kept, c.self.invariant.1)
 
 pub returns : goal.returns
 returns c =

@@ -11,7 +11,7 @@ pub bounds-deref_mut-from : goal.bounds-deref_mut-from
 bounds-deref_mut-from c =
     let some = nonempty c.self.inside.asked.items (sym c.is_empty.ensures ∙ c.if-is_empty.false) in
     let within = asked_within (state_of c.self.inside) c.self.inside.clients.items (asked_is c.remove-asked.result)
-    (own_clients c.self.inside c.self.invariant)
+    (own_clients c.self.inside c.self.invariant.0)
     (oldest_asked c.self.inside c.remove-asked.result some c.remove-asked.ensures.value) in
     let same = ap (λ l. length l) c.deref_mut.ensures.value in
     let converted = c.from.ensures in
@@ -29,7 +29,7 @@ can : (c : After-index-deref_mut-from)
 can c =
     let some = nonempty c.self.inside.asked.items (sym c.is_empty.ensures ∙ c.if-is_empty.false) in
     can_answer (state_of c.self.inside) c.self.inside.clients.items c.deref_mut.result.now (asked c) c.from.result
-    c.index-deref_mut-from.result (own_clients c.self.inside c.self.invariant)
+    c.index-deref_mut-from.result (own_clients c.self.inside c.self.invariant.0)
     (oldest_asked c.self.inside c.remove-asked.result some c.remove-asked.ensures.value)
     c.from.ensures c.deref_mut.ensures.value
 
@@ -57,7 +57,7 @@ answered : (c : goal.After-self-1)
 answered c =
     let before = can (goal.at.invariant_of-self c).After-index-deref_mut-from in
     clients-answer (state_of c.self.inside) c.self.inside.clients.items c.from.result _ c.answer_aborted.new.self
-    (asked_is c.remove-asked.result) 0 (Some Aborted) [] None (own_clients c.self.inside c.self.invariant) before
+    (asked_is c.remove-asked.result) 0 (Some Aborted) [] None (own_clients c.self.inside c.self.invariant.0) before
     (serves_none (state_of c.self.inside) (asked_is c.remove-asked.result) (rw (← c.self.view_is) at c.requires)
     before.oldest)
     c.from.ensures c.answer_aborted.ensures
@@ -75,7 +75,7 @@ invariant_of-self c =
       are.flags,
       asked_rest c.self.inside.asked.items c.remove-asked.new.self.items c.remove-asked.ensures.items,
       none,
-    ) are.kept
+    ) (are.kept, c.self.invariant.1)
 
 pub returns-clause-ended : goal.returns-clause-ended
 returns-clause-ended c =

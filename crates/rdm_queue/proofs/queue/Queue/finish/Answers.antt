@@ -3,7 +3,7 @@ use Rattle.rdm_queue.proofs.Common.{Finish, completion_value, state_of, QueueSta
 use Rattle.rdm_log.specs.log.Broken.{key_of_first, is_end_flagged}
 use Rattle.rdm_queue.specs.body.State.{flag_at_end}
 use Rattle.rdm_queue.proofs.BodyLemmas.FieldLemmas.{written}
-use Rattle.rdm_queue.proofs.BodyLemmas.OldestLemmas.{oldest_within}
+use Rattle.rdm_queue.proofs.BodyLemmas.OldestLemmas.{oldest_within, owners_finish}
 use Rattle.rdm_queue.proofs.BodyLemmas.RingSteps.{entry-finish}
 use Rattle.rdm_queue.proofs.BodyLemmas.RingFields.{AreClientsOf, own_clients, CanFinish, can_finish, clients-finish}
 use Rattle.rdm_queue.proofs.queue.Queue.finish.Goals.{After-index-deref_mut-at}
@@ -13,7 +13,7 @@ use Rattle.rdm_queue.proofs.queue.Queue.finish.Goals as goal
 within : (c : goal.After-deref_mut) → c.args.at < length c.deref_mut.result.now
 within c =
     subst (λ (ks : List Client). c.args.at < length ks) (sym c.deref_mut.ensures.value)
-    (oldest_within (state_of c.self.inside) c.self.inside.clients.items c.args.at c.self.invariant
+    (oldest_within (state_of c.self.inside) c.self.inside.clients.items c.args.at c.self.invariant.0
     (rw (← c.self.view_is) at c.requires.oldest))
 
 pub offset_bounds-deref_mut-at : goal.offset_bounds-deref_mut-at
@@ -30,7 +30,7 @@ can : (c : After-index-deref_mut-at)
     → CanFinish (state_of c.self.inside) c.self.inside.clients.items c.requires.oldest.0 (client c)
 can c =
     can_finish (state_of c.self.inside) c.self.inside.clients.items c.deref_mut.result.now c.requires.oldest.0 c.args.at
-    c.index-deref_mut-at.result (own_clients c.self.inside c.self.invariant)
+    c.index-deref_mut-at.result (own_clients c.self.inside c.self.invariant.0)
     (rw (← c.self.view_is) at c.requires.oldest.1) c.requires.oldest.2 c.deref_mut.ensures.value
 
 pub finish_oldest-requires-clause-some : goal.finish_oldest-requires-clause-some
@@ -58,7 +58,7 @@ finished : (c : goal.After-self-2-1)
 finished c =
     clients-finish (state_of c.self.inside) c.self.inside.clients.items c.args.at _ c.finish_oldest.new.self c.args.done
     c.end-may_be_incomplete.result c.finish_oldest.result c.requires.oldest.0
-    (own_clients c.self.inside c.self.invariant)
+    (own_clients c.self.inside c.self.invariant.0)
     (can (goal.at.returns c).After-index-deref_mut-at) c.requires.oldest.2 (flag_is c) c.finish_oldest.ensures
 
 removed : (c : goal.After-self-2-1) → (state_of c.self.inside).decided ≡ None
@@ -78,7 +78,14 @@ invariant_of-self c =
       removed c,
       c.end-may_be_incomplete.ensures.ended,
       key_is c,
-    ) are.kept
+    ) (
+      are.kept,
+      record {
+        each = owners_finish (state_of c.self.inside).waiting c.self.inside.owners.items _ c.self.invariant.1.each
+            c.pop_front.ensures.rest;
+        enough = c.pop_front.ensures.capacity ∙ c.self.invariant.1.enough;
+      },
+    )
 
 pub returns : goal.returns
 returns c =
@@ -92,7 +99,7 @@ returns c =
         c.finish_oldest.ensures.entry_is
             ∙ ap (λ n. Finish n c.args.done.status (length c.args.done.bytes.items))
             (sym (entry-finish (state_of c.self.inside) clients _ c.finish_oldest.new.self c.args.done
-            c.end-may_be_incomplete.result c.finish_oldest.result c.requires.oldest.0 c.self.invariant.rings before.at
+            c.end-may_be_incomplete.result c.finish_oldest.result c.requires.oldest.0 c.self.invariant.0.rings before.at
             c.finish_oldest.ensures
             before.oldest)),
         rw (

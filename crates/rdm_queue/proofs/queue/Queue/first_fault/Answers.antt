@@ -17,14 +17,14 @@ at c =
 pub has_most_requests-requires : goal.has_most_requests-requires
 has_most_requests-requires c =
     let found = (goal.at.has_most_requests-requires c).In-Some in
-    fewer_sets c.self.inside.clients.items c.args.client.0 (client found) c.self.invariant.rings.sets (at found)
+    fewer_sets c.self.inside.clients.items c.args.client.0 (client found) c.self.invariant.0.rings.sets (at found)
 
 pub returns-in-Submit : goal.returns-in-Submit
 returns-in-Submit c =
     let found = (goal.at.returns-in-Submit c).In-Some in
     rw (← c.self.view_is, c.in-Submit.is, c.full_if.ensures, c.has_most_requests.ensures)
     (sym (fault_of (state_of c.self.inside) c.self.inside.clients.items c.args.client.0 (client found)
-    c.self.invariant refl refl (at found) c.if-self.false))
+    c.self.invariant.0 refl refl (at found) c.if-self.false))
 
 pub returns-in-Discover : goal.returns-in-Discover
 returns-in-Discover c =
@@ -33,4 +33,4 @@ returns-in-Discover c =
     rw (← c.self.view_is) at c.asked_by.ensures.value in
     rw (← c.self.view_is, c.in-Discover.is, c.full_if-in-Discover.ensures, c.has_most_discoveries.ensures, count)
     (sym (ask_fault_of (state_of c.self.inside) c.self.inside.clients.items c.args.client.0 (client found)
-    c.self.invariant refl refl (at found) c.if-self.false))
+    c.self.invariant.0 refl refl (at found) c.if-self.false))

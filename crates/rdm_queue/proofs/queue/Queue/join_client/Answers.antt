@@ -12,11 +12,12 @@ joined : (c : goal.After-push)
     (c.self.inside.clients.items ++ c.in-Ok.client ∷ [])
 joined c =
     clients-join (state_of c.self.inside) c.self.inside.clients.items c.in-Ok.client c.args.places
-    (own_clients c.self.inside c.self.invariant) c.in-Ok.ensures (passes c)
+    (own_clients c.self.inside c.self.invariant.0) c.in-Ok.ensures (passes c)
 
 pub invariant_of-self : goal.invariant_of-self
 invariant_of-self c =
-    let are = joined c in rw (c.push.ensures.items, are.places, are.waiting, are.owed, are.flags) are.kept
+    let are = joined c in rw (c.push.ensures.items, are.places, are.waiting, are.owed, are.flags)
+    (are.kept, c.self.invariant.1)
 
 pub returns-clause-joined : goal.returns-clause-joined
 returns-clause-joined c =

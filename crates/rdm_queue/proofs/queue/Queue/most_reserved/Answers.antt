@@ -4,4 +4,4 @@ use Rattle.rdm_queue.proofs.queue.Queue.most_reserved.Goals as goal
 
 pub returns-clause-most : goal.returns-clause-most
 returns-clause-most c =
-    rw (← c.self.view_is, c.from.ensures) (reserved_le (state_of c.self.inside) c.self.invariant.state)
+    rw (← c.self.view_is, c.from.ensures) (reserved_le (state_of c.self.inside) c.self.invariant.0.state)

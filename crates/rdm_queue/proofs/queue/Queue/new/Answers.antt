@@ -11,9 +11,9 @@ invariant_of-result c =
       c.start.ensures.state,
       c.new-3.ensures,
       c.new-4.ensures,
-      waiting_are (first_state c.args.setup) [] (first_kept c.args.setup c.requires),
+      waiting_are (first_state c.args.setup) [] (first_kept c.args.setup c.requires.config_is),
     )
-    (first_kept c.args.setup c.requires)
+    (first_kept c.args.setup c.requires.config_is, record { each = c.requires.empty; enough = c.requires.room })
 
 pub returns : goal.returns
 returns c = rw (
@@ -23,5 +23,5 @@ returns c = rw (
   c.start.ensures.state,
   c.new-3.ensures,
   c.new-4.ensures,
-  waiting_are (first_state c.args.setup) [] (first_kept c.args.setup c.requires),
+  waiting_are (first_state c.args.setup) [] (first_kept c.args.setup c.requires.config_is),
 ) refl

@@ -19,11 +19,11 @@ collected : (c : goal.After-self-2-1)
 collected c =
     may_collect (state_of c.self.inside) c.self.inside.clients.items c.from.result c.in_ok-get_mut.field-0.now
     c.collect_request.new.self c.collect_request.result (λ r. outcome_value (request_outcome r))
-    (own_clients c.self.inside c.self.invariant) (at c) c.collect_request.ensures.removed
+    (own_clients c.self.inside c.self.invariant.0) (at c) c.collect_request.ensures.removed
     c.collect_request.ensures.unchanged
 
 pub invariant_of-self-2 : goal.invariant_of-self-2
-invariant_of-self-2 c = let are = (collected c).are in rw (are.places, are.waiting) are.kept
+invariant_of-self-2 c = let are = (collected c).are in rw (are.places, are.waiting) (are.kept, c.self.invariant.1)
 
 pub returns-clause-removed : goal.returns-clause-removed
 returns-clause-removed c =

@@ -23,13 +23,14 @@ collected g c =
     let l = c.collect_discovery.new.self in
     may_collect (state_of c.self.inside) c.self.inside.clients.items c.from.result k l c.collect_discovery.result
     (λ end. outcome_value (discovery_outcome end (g.T.TakesDevices.devices c.collect_discovery.new.set)))
-    (own_clients c.self.inside c.self.invariant) (at g c) c.collect_discovery.ensures.removed
+    (own_clients c.self.inside c.self.invariant.0) (at g c) c.collect_discovery.ensures.removed
     (if_none c.collect_discovery.result
     (λ (same : (l ≡ k) × (c.collect_discovery.new.set ≡ c.args.set.now)). same.0)
     c.collect_discovery.ensures.unchanged)
 
 pub invariant_of-self-2 : goal.invariant_of-self-2
-invariant_of-self-2 g c = let are = (collected g c).are in rw (are.places, are.waiting) are.kept
+invariant_of-self-2 g c = let are = (collected g c).are in rw (are.places, are.waiting)
+    (are.kept, c.self.invariant.1)
 
 pub returns-clause-removed : goal.returns-clause-removed
 returns-clause-removed g c =

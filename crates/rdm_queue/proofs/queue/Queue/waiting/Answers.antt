@@ -9,7 +9,7 @@ sum-requires-clause-fits c =
     (YieldsList-from_map _ (λ k. deque_len k.waiting) (YieldsList-from_slice c.self.inside.clients.items cc)
     c.map.ensures.closure (λ x r q k. search (rules, tests)))
     (subst (λ n. n < 18446744073709551616) (sym (waiting_sum c.self.inside.clients.items))
-    (waiting_fit (state_of c.self.inside) c.self.invariant.state))
+    (waiting_fit (state_of c.self.inside) c.self.invariant.0.state))
 
 pub returns : goal.returns
 returns c =
