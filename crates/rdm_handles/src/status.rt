@@ -131,3 +131,51 @@ pub const INVALID_RESPONSE_TYPE: u32 = 42;
 
 /// The bytes aren't a text in UTF-8.
 pub const NOT_TEXT: u32 = 43;
+
+// Programs in C are compiled with these numbers, so no other is ever right.
+const _: () = prove!(
+    DONE == 0
+        && NOTHING == 1
+        && NOT_OPEN == 2
+        && ALREADY_OPEN == 3
+        && BAD_UID == 4
+        && BROADCAST_UID == 5
+        && TOO_MANY_PLACES == 6
+        && NO_BUDGET == 7
+        && BAD_SEARCH == 8
+        && BAD_KIND == 9
+        && BAD_CLASS == 10
+        && DATA_TOO_LONG == 11
+        && REPLY_TOO_LONG == 12
+        && TOO_MANY_ENTRIES == 13
+        && BUFFER_TOO_SMALL == 14
+        && OUT_OF_MEMORY == 15
+        && CLOSED == 16
+        && UNKNOWN_CLIENT == 17
+        && TOO_MANY_CLIENTS == 18
+        && NO_PLACES == 19
+        && FULL == 20
+        && LOG_FULL == 21
+        && NOT_ASKED == 22
+        && OTHER_OUTCOME == 23
+        && NOT_IDLE == 24
+        && NO_ENTRY == 25
+        && BAD_RANGE == 26
+        && TOO_MANY_DEVICES == 27
+        && BAD_PREAMBLE == 28
+        && BAD_RESPONSE_TYPE == 29
+        && NOT_ENDED == 30
+        && HAS_ENDED == 31
+        && UID_LENGTH == 32
+        && UID_SEPARATOR == 33
+        && UID_DIGIT == 34
+        && TOO_SHORT == 35
+        && WRONG_START == 36
+        && WRONG_SUB_START == 37
+        && LENGTH_MISMATCH == 38
+        && PARAM_LENGTH_MISMATCH == 39
+        && WRONG_CHECKSUM == 40
+        && INVALID_CLASS == 41
+        && INVALID_RESPONSE_TYPE == 42
+        && NOT_TEXT == 43
+);
