@@ -526,7 +526,7 @@ class Command(TestCase):
         full = OSError(errno.ENOSPC, os.strerror(errno.ENOSPC))
         with mock.patch("os.fsync", side_effect=full), mock.patch("sys.stdout", io.TextIOWrapper(io.BytesIO())):
             with self.assertRaisesRegex(Exception, "No space left on device"):
-                explaining.explain(self.program, ["explain", str(self.log)], str(self.page), [str(self.log)], False)
+                explaining.explain(self.program, ["explain", str(self.log)], str(self.page), [str(self.log)])
         self.assertEqual(self.page.read_text(), "old")
         self.assertEqual([each.name for each in self.place.glob(".page*")], [])
 

@@ -6,6 +6,7 @@ from __future__ import annotations
 
 import os
 import subprocess
+import sys
 from typing import BinaryIO, Mapping, Optional, Sequence, Tuple
 
 from ..front.csv_files import LABEL, read
