@@ -9,6 +9,7 @@ from ..checker.case import Case, Expected, prints
 from ..checker.forms import is_findings
 from ..checker.tables import read_table
 from .damage import with_byte
+from .log_lines import timed
 from .runs import explained
 
 LOGS = Path(__file__).resolve().parent.parent / "logs.txt"
@@ -25,8 +26,15 @@ def cases() -> Iterator[Case]:
     for case in read_table(LOGS).cases:
         if case.name in STEPS and case.expected.log is not None:
             log = case.expected.log.contents or b""
-            yield from cut_off(case.name, log, STEPS[case.name][0])
-            yield from flipped(case.name, log, STEPS[case.name][1])
+            for name, text in ((case.name, log), (f"{case.name}, with times", with_times(log))):
+                yield from cut_off(name, text, STEPS[case.name][0])
+                yield from flipped(name, text, STEPS[case.name][1])
+
+
+def with_times(log: bytes) -> bytes:
+    """A log whose lines but the opening have times."""
+    opening, *lines = log.decode().splitlines(True)
+    return "".join([opening, *(timed(line, str(10 ** 15 + number)) for number, line in enumerate(lines))]).encode()
 
 
 def cut_off(name: str, log: bytes, step: int) -> Iterator[Case]:

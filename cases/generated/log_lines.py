@@ -1,4 +1,4 @@
-"""Each kind of line of a log, at the limits of its values, which explain reads; and other lines, which it refuses."""
+"""Each kind of line of a log, at the limits of its values and with times, which explain reads; others are refused."""
 from __future__ import annotations
 
 from typing import Iterator, Sequence
@@ -155,6 +155,11 @@ OTHERS = (
     '{"number":0,"operation":"unmute","frame":"","reply":"","failed":true}',
 )
 
+# The last key of a line where a clock is at hand, and what is none.
+TIMES = (0, 1, 1796014800123456, 18446744073709551615)
+NO_TIMES = ("", "00", "01", "-1", "+1", "1.0", "1e3", " 1", "1 ", '"1"', "null", "18446744073709551616",
+            '1,"microseconds":1', '1,"client":0', "1}")
+
 # The text before and after bytes, the most of them, and what is printed. A frame and a reply have at most 257 bytes,
 # and the data of a request 231.
 ACCEPTED = '{"entry":"accept","client":0,"number":0,"set":"1234:00000001","pid":"0060","sub":0,"param":"'
@@ -192,14 +197,36 @@ def cases() -> Iterator[Case]:
         yield shows(f"read: {line.strip()}", line, text, status)
     for line in OTHERS:
         yield refuses(f"refused: {line}", f"{line}\n", 1)
+    yield from with_times()
     yield from longest_bytes()
     yield from longest_openings()
+
+
+def with_times() -> Iterator[Case]:
+    """Each line with times. Openings have none."""
+    lines = [(line, NO_RUN, 0) for line in (*ENTRIES.splitlines(True), *map(FINISHED.format, STATUSES))]
+    for line, text, status in (*lines, *EXCHANGES):
+        for time in map(str, TIMES):
+            yield shows(f"read with {time}: {line.strip()}", timed(line, time), text, status)
+        for time in NO_TIMES:
+            yield refuses(f"refused with {time}: {line.strip()}", timed(line, time), 1)
+    for line, run in SENDS:
+        yield shows(f"read with a time: {line.strip()}", timed(line, "1") + timed(SILENCE, "2"), OF_ONE.format(run))
+    for line in OPENINGS.splitlines(True):
+        yield refuses(f"refused with a time: {line.strip()}", timed(line, "1"), 1)
+
+
+def timed(line: str, time: str) -> str:
+    """A line with a time."""
+    return f'{line.rstrip()[:-1]},"microseconds":{time}}}\n'
 
 
 def longest_bytes() -> Iterator[Case]:
     """The most bytes of each line with bytes, and one more."""
     for before, after, most, text in LONGEST:
-        yield shows(f"{most} bytes after {before}", f"{before}{'a5' * most}{after}", text)
+        longest = f"{before}{'a5' * most}{after}"
+        yield shows(f"{most} bytes after {before}", longest, text)
+        yield shows(f"{most} bytes and a time after {before}", timed(longest, str(TIMES[-1])), text)
         yield refuses(f"{most + 1} bytes after {before}", f"{before}{'a5' * (most + 1)}{after}", 1)
 
 

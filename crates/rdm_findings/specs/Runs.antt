@@ -153,8 +153,8 @@ reopens o s = (s.has_run && not s.is_session) && is_like o s.run
 abbrev pub begins : LogLine → ReadState → Bool
 begins (Discovery o) s = not (reopens o.value s)
 begins (Session o) s = true
-begins (Entered entry) s = (not s.is_session || begins_log entry s) || begins_run entry s
-begins (Exchanged number frame event) s = not (continues number s)
+begins (Entered entry time) s = (not s.is_session || begins_log entry s) || begins_run entry s
+begins (Exchanged number frame event time) s = not (continues number s)
 
 -- the run that ended
 abbrev pub ended : ReadState → List RunRead
@@ -276,9 +276,9 @@ after_line (Discovery o) s = after_opening o.value s
 after_line (Session o) s =
     awaiting true None (Some o.value.opening.search) (Some o.value.opening.budget)
     (Some (uids_of o.value.opening.devices)) (asks_from o.value.opening.next_ask o.value.opening.next_run)
-after_line (Entered entry) s =
+after_line (Entered entry time) s =
     after_entry entry (if not s.is_session || begins_log entry s then unopened true else s)
-after_line (Exchanged number frame event) s =
+after_line (Exchanged number frame event time) s =
     with_exchange frame event (if continues number s then s else discovered number s)
 
 -- the runs that ended, and what was read since, after another line

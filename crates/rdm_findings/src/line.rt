@@ -1,10 +1,12 @@
 //! The lines of a log: read loosely, written back by the writer of logs, and compared.
-ghost use Rattle.std.specs.Prelude.{◌≡◌, true, IfOk, IfSome};
+ghost use Rattle.std.specs.Prelude.{◌≡◌, true, IfOk, IfSome, OnOk, Some};
 ghost use Rattle.rdm_wire.specs.Frames.{asked_in};
+ghost use Rattle.rdm_reports.specs.LogText.{entry_line, exchange_line};
 ghost use Rattle.rdm_reports.specs.OpeningText.{session_opening};
-ghost use Rattle.rdm_findings.specs.Lines.{line_text, is_sound, asks_discovery, is_asked, is_asked_by};
+ghost use Rattle.rdm_findings.specs.Lines.{line_text, with_time, is_sound, asks_discovery, is_asked, is_asked_by};
 
 use crate::fields::{bytes, has, number};
+use crate::writing::{write, write_number};
 use crate::{entry, opening};
 use rdm_agent::{Kind, Search};
 use rdm_explain::{Asked, read_exchange};
@@ -14,6 +16,9 @@ use rdm_reports::{discovery_opening, entry_line, exchange_line, session_opening}
 use rdm_wire::{Frame, NoMemory, Uid, UidSet};
 use std::alloc::{AllocError, Global};
 use std::str;
+
+// What ends each line of a log.
+const LINE_END: &str = "}\n";
 
 /// The opening of a discovery's log.
 #[derive(Drop)]
@@ -39,7 +44,7 @@ pub struct SessionOpening {
     pub first: u64,
 }
 
-/// A line of a log.
+/// A line of a log. Openings have no time; entries and exchanges have one if a clock was at hand.
 #[derive(Drop)]
 pub enum LogLine {
     /// The opening of a discovery's log.
@@ -47,7 +52,12 @@ pub enum LogLine {
     /// The opening of a session's log.
     Session(Box<SessionOpening>),
     /// An entry of a session.
-    Entered(Entry),
+    Entered {
+        /// The entry.
+        entry: Entry,
+        /// Its time, in microseconds since 1970.
+        microseconds: Option<u64>,
+    },
     /// An exchange of a discovery.
     Exchanged {
         /// Its number, from 0.
@@ -56,11 +66,13 @@ pub enum LogLine {
         frame: Frame,
         /// What came after it.
         event: LineEvent,
+        /// Its time, in microseconds since 1970.
+        microseconds: Option<u64>,
     },
 }
 
-/// The line of a log that has this text, with its newline. `None`: no line that the writer of logs writes was found to
-/// have it. The only error: out of memory.
+/// The line of a log that has this text, with its newline. `None`: no line that the writer of logs writes, perhaps with
+/// a time, was found to have it. The only error: out of memory.
 pub fn read_line(alloc: Global, text: &[u8]) -> Result<Option<LogLine>, NoMemory>
     ensures text { IfOk result (λ found. IfSome found (λ line. line_text line ≡ text.now)) }
     // Damage in a frame of a run is found by the frame's own checksum.
@@ -87,7 +99,7 @@ fn is_sound(line: &LogLine) -> bool
     ensures { result ≡ is_sound line.now }
 {
     match line {
-        LogLine::Entered(entry) => asks_discovery(entry),
+        LogLine::Entered { entry, .. } => asks_discovery(entry),
         LogLine::Exchanged { frame, .. } => is_asked(frame),
         LogLine::Discovery(_) | LogLine::Session(_) => true,
     }
@@ -135,12 +147,16 @@ fn written(alloc: Global, line: &LogLine) -> Result<Vec<u8>, AllocError>
             o.budget,
         ),
         LogLine::Session(o) => session_text(alloc, o),
-        LogLine::Entered(entry) => entry_line(alloc, entry),
+        LogLine::Entered {
+            entry,
+            microseconds,
+        } => entry_text(alloc, entry, *microseconds),
         LogLine::Exchanged {
             number,
             frame,
             event,
-        } => exchange_line(alloc, *number, frame, event),
+            microseconds,
+        } => exchange_text(alloc, *number, frame, event, *microseconds),
     }
 }
 
@@ -151,6 +167,55 @@ fn session_text(alloc: Global, o: &SessionOpening) -> Result<Vec<u8>, AllocError
     session_opening(alloc, &o.opening, o.first)
 }
 
+// The text of an entry, with its time if it has one.
+fn entry_text(
+    alloc: Global,
+    entry: &Entry,
+    microseconds: Option<u64>,
+) -> Result<Vec<u8>, AllocError>
+    ensures { IfOk result (λ text. text.items ≡ with_time (entry_line entry.now) microseconds) }
+{
+    let mut text = entry_line(alloc, entry)?;
+    add_time(&mut text, microseconds)?;
+    Ok(text)
+}
+
+// The text of an exchange, with its time if it has one.
+fn exchange_text(
+    alloc: Global,
+    number: u64,
+    frame: &Frame,
+    event: &LineEvent,
+    microseconds: Option<u64>,
+) -> Result<Vec<u8>, AllocError>
+    ensures { IfOk result (λ text. text.items
+        ≡ with_time (exchange_line number (frame.now, event.now)) microseconds) }
+{
+    let mut text = exchange_line(alloc, number, frame, event)?;
+    add_time(&mut text, microseconds)?;
+    Ok(text)
+}
+
+// Gives the text of a line its time, if it has one.
+fn add_time(text: &mut Vec<u8>, microseconds: Option<u64>) -> Result<(), AllocError>
+    ensures { OnOk result (text.new.items ≡ with_time text.old.items microseconds) }
+{
+    match microseconds {
+        Some(time) => write_time(text, time),
+        None => Ok(()),
+    }
+}
+
+fn write_time(text: &mut Vec<u8>, time: u64) -> Result<(), AllocError>
+    ensures { OnOk result (text.new.items ≡ with_time text.old.items (Some time)) }
+{
+    let open = text.len().saturating_sub(LINE_END.len());
+    text.truncate(open);
+    write(text, ",\"microseconds\":")?;
+    write_number(text, time)?;
+    write(text, LINE_END)
+}
+
 // The line that a text seems to be.
 fn seeming_line(alloc: Global, text: &[u8]) -> Result<Option<LogLine>, NoMemory> {
     let Ok(line) = str::from_utf8(text) else {
@@ -159,7 +224,7 @@ fn seeming_line(alloc: Global, text: &[u8]) -> Result<Option<LogLine>, NoMemory>
     if line.starts_with("{\"entry\":\"opening\"") {
         seeming_opening(alloc, line)
     } else if line.starts_with("{\"entry\"") {
-        Ok(entry::entry(line).map(LogLine::Entered))
+        Ok(entered(line))
     } else {
         Ok(exchange(line))
     }
@@ -185,10 +250,23 @@ fn seeming_opening(alloc: Global, line: &str) -> Result<Option<LogLine>, NoMemor
     }
 }
 
+fn entered(line: &str) -> Option<LogLine> {
+    Some(LogLine::Entered {
+        entry: entry::entry(line)?,
+        microseconds: microseconds(line),
+    })
+}
+
 fn exchange(line: &str) -> Option<LogLine> {
     Some(LogLine::Exchanged {
         number: number(line, "\"number\":")?,
         frame: bytes(line, "\"frame\":\"")?,
         event: entry::event(line)?,
+        microseconds: microseconds(line),
     })
+}
+
+// The time of a line that has one.
+fn microseconds(line: &str) -> Option<u64> {
+    number(line, "\"microseconds\":")
 }

@@ -135,7 +135,9 @@ impl Reading {
         match line {
             LogLine::Discovery(opening) => !self.reopens(opening),
             LogLine::Session(_) => true,
-            LogLine::Entered(entry) => self.begins_log(entry) || self.is_ended_by_entry(entry),
+            LogLine::Entered { entry, .. } => {
+                self.begins_log(entry) || self.is_ended_by_entry(entry)
+            }
             LogLine::Exchanged { number, .. } => !self.continues(*number),
         }
     }
@@ -229,7 +231,7 @@ impl Reading {
         match line {
             LogLine::Discovery(opening) => self.take_discovery(alloc, opening),
             LogLine::Session(opening) => self.open_session(alloc, opening),
-            LogLine::Entered(entry) => {
+            LogLine::Entered { entry, .. } => {
                 self.continue_session(&entry);
                 self.take_entry(alloc, entry)
             }
@@ -237,6 +239,7 @@ impl Reading {
                 number,
                 frame,
                 event,
+                ..
             } => {
                 self.continue_discovery(number);
                 self.add(&frame, &event)

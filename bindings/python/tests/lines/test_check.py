@@ -10,7 +10,7 @@ from unittest import mock
 
 from common import PACKAGE, folder, needs_library
 from fronts import LEFT, SLOW, OneRig, called
-from wurstlinen._times import now, timeless
+from wurstlinen._times import now
 from wurstlinen.front import discovery_log
 from wurstlinen.front.page_findings import Outcome, Run
 from wurstlinen.front.page_log import read_log
@@ -104,10 +104,9 @@ class Check(OneRig):
             self.assertEqual((status, lines[:2]), (3, [
                 f"missing  {GONE}  Nine  didn't mute; see whether it is on and connected",
                 "missing  1234:00000008  check its power and its cable"]))
-            # The program reads no times.
             ours = (place / "our.log").read_text()
             self.assertIn("microseconds", ours)
-            self.assertEqual(log.read_text(), "".join(map(timeless, ours.splitlines(True))))
+            self.assertEqual(log.read_text(), ours)
             # A program that can't be run.
             program.write_text("")
             with mock.patch.dict(os.environ, {"WURSTLINEN_PROGRAM": str(program)}):

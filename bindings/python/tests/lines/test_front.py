@@ -16,9 +16,7 @@ from unittest import mock
 
 from common import PACKAGE, ROOT, TestCase, folder, needs_library
 from fronts import FIVE, LEFT, SLOW, OneRig, called
-from moments import Trace
 from wurstlinen import Session, Uid, commands, entries
-from wurstlinen._times import has_times
 from wurstlinen.front import files, frames, naming, pids
 from wurstlinen.front.output import Output
 from wurstlinen.lines import open_line
@@ -474,20 +472,6 @@ class Frames(TestCase):
         found = [json.loads(line)["answer"] for line in printed.splitlines()]
         self.assertEqual(found[2:6], [{"text": "silence"}, {"text": LEFT, "uid": LEFT},
                                       {"text": "ACK 0x0002123400000005", "uid": LEFT}, {"text": "silence"}])
-
-    def test_a_log_that_is_truncated_while_it_is_read(self) -> None:
-        with folder() as place:
-            log = place / "log"
-            log.write_bytes(bytes(1 << 16))
-            trace = Trace()
-            trace.run(lambda: has_times(str(log)))
-            for moment in trace.moments():
-                log.write_bytes(bytes(1 << 16))
-                child = os.fork()
-                if not child:
-                    Trace(moment, action=lambda: os.truncate(log, 0)).run(lambda: has_times(str(log)))
-                    os._exit(0)
-                self.assertEqual(os.waitpid(child, 0)[1], 0, str(moment))
 
     def test_files_that_are_no_logs(self) -> None:
         for text in ("[" * 100_000, "x\n", "7\n", "null\n", "[]\n",

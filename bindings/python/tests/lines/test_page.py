@@ -443,14 +443,13 @@ class Command(TestCase):
         self.assertEqual(self.called("log", "--page", "rig.csv", "--names", "rig.csv")[0], 2)
 
     def test_a_log_with_times(self) -> None:
-        """The program reads a copy without them, and what it says is of the log."""
-        plain = self.log.read_text()
-        self.log.write_text(plain.replace('"}\n', '","microseconds":17}\n'))
-        said = "sys.stderr.write(f'\"{sys.argv[3]}\" has {Path(sys.argv[3]).read_text()}')"
-        self.stand_in(self.printed(3), 3, said)
-        for words in ([], ["--page", "page.html"]):
-            self.assertEqual(self.called("log", *words), (3, self.LINES, f'"log" has {plain}'))
-        self.assertEqual(head_in(self.page.read_text(encoding="utf-8"))["count"], plain.count("\n") - 1)
+        """The program reads the log itself, and so does the page."""
+        self.log.write_text(self.log.read_text().replace('"}\n', '","microseconds":17}\n'))
+        self.assertEqual(self.called("log"), (3, self.printed(3), ""))
+        self.assertEqual((self.place / "called").read_text(), "explain\nlog")
+        self.assertEqual(self.called("log", "--page", "page.html"), (3, self.LINES, ""))
+        self.assertEqual((self.place / "called").read_text(), "explain\n--json\nlog")
+        self.assertEqual(head_in(self.page.read_text(encoding="utf-8"))["count"], self.log.read_text().count("\n") - 1)
 
     def test_without_a_page_it_is_the_program(self) -> None:
         self.assertEqual(self.called("log", "--present", LEFT), (3, self.printed(3), ""))
@@ -527,7 +526,7 @@ class Command(TestCase):
         full = OSError(errno.ENOSPC, os.strerror(errno.ENOSPC))
         with mock.patch("os.fsync", side_effect=full), mock.patch("sys.stdout", io.TextIOWrapper(io.BytesIO())):
             with self.assertRaisesRegex(Exception, "No space left on device"):
-                explaining.explain(self.program, ["explain", str(self.log)], str(self.page), [str(self.log)], False)
+                explaining.explain(self.program, ["explain", str(self.log)], str(self.page), [str(self.log)])
         self.assertEqual(self.page.read_text(), "old")
         self.assertEqual([each.name for each in self.place.glob(".page*")], [])
 

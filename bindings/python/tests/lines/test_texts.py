@@ -95,7 +95,8 @@ class Readers(LongTestCase):
         """A status doesn't depend on whether anybody reads why."""
         with folder() as place:
             program, log = place / "program", place / "log"
-            program.write_text("#!/bin/sh\necho wrong >&2\nexit 2\n")
+            # Like the program, it doesn't end if nobody reads.
+            program.write_text("#!/bin/sh\ntrap '' PIPE\necho wrong >&2\nexit 2\n")
             program.chmod(0o755)
             log.write_text('{"entry":"opening"}\n{"number":0,"microseconds":5}\n')
             reading, writing = os.pipe()

@@ -6,7 +6,7 @@ import json
 from typing import Callable, Dict, Iterator, Optional, Sequence, Tuple
 
 from .. import DEFAULT_BUDGET, Uid
-from .._times import now, timeless
+from .._times import now
 from ..lines.numbers import Pid
 from ..lines.packets import decode_packet
 from .output import FAILED, Failure
@@ -75,7 +75,7 @@ def explanation(program: str, lines: Sequence[str], uids: Sequence[Uid], *option
     import subprocess
     import tempfile
     with tempfile.NamedTemporaryFile("w", prefix="wurstlinen.", suffix=".log") as log:
-        log.writelines(map(timeless, lines))
+        log.writelines(lines)
         log.flush()
         words = [word for uid in uids for word in ("--present", str(uid))]
         done = subprocess.run(["wurstlinen", "explain", log.name, *options, *words], executable=program, check=False,

@@ -1,20 +1,16 @@
-"""The command explain with --page, or of a log with times: what the proved program finds, and a page that shows it.
+"""The command explain with --page: what the proved program finds, and a page that shows it.
 
 The program's output, its errors and its status are the command's. The page has only what the program has found.
 """
 from __future__ import annotations
 
-import contextlib
-import json
 import os
 import subprocess
 import sys
-import tempfile
-from typing import IO, BinaryIO, Mapping, Optional, Sequence, Tuple
+from typing import BinaryIO, Mapping, Optional, Sequence, Tuple
 
-from .._times import timeless
 from ..front.csv_files import LABEL, read
-from ..front.files import MOST_LINE, file_of
+from ..front.files import file_of
 from ..front.output import BAD_ARGUMENTS, FAILED, Failure, Output
 from ..front.page import page_of
 from ..front.page_findings import Findings, NoFindings, findings_in
@@ -45,22 +41,18 @@ class NoOutput(Exception):
         self.fault = fault
 
 
-def explain(program: str, words: Sequence[str], page: Optional[str], files: Sequence[str], has_times: bool,
-            names: Optional[str] = None) -> int:
+def explain(program: str, words: Sequence[str], page: str, files: Sequence[str], names: Optional[str] = None) -> int:
     """Runs the program with these words; `files` are read, the log first. Raises Failure and OSError.
 
-    It reads a log with times as a copy without them. The page has the labels of the file `names`.
+    The page has the labels of the file `names`.
     """
-    timed = files[0] if has_times else None
     try:
-        if page is None:
-            return explained(program, words, timed)[0]
         check(page, files)
         labels = {} if names is None else {row.uid.number: row.values.get(LABEL, "")
                                            for row in read(names, Output(False)).rows}
         with file_of(page) as made:
             before = state_of(files[0]) if files else None
-            status, findings = explained(program, words, timed)
+            status, findings = explained(program, words)
             made.write(drawn(files[0], before, findings, labels))
     except NoPage as end:
         return end.status
@@ -83,13 +75,10 @@ def check(page: str, files: Sequence[str]) -> None:
             raise Failure(BAD_ARGUMENTS, f"{name} is no file on a disk, and --page has to read it twice", reason="file")
 
 
-def explained(program: str, words: Sequence[str], timed: Optional[str]) -> Tuple[int, Findings]:
-    """The program's status, and what it finds in a log, which is printed here too. Raises NoPage and NoOutput.
-
-    If the log has times, this is its name.
-    """
+def explained(program: str, words: Sequence[str]) -> Tuple[int, Findings]:
+    """The program's status, and what it finds in a log, which is printed here too. Raises NoPage and NoOutput."""
     wanted = words if JSON in words else [*words[:1], JSON, *words[1:]]
-    status, printed = called(program, wanted) if timed is None else called_without_times(program, wanted, timed)
+    status, printed = called(program, wanted)
     try:
         findings = findings_in(printed)
     except NoFindings:
@@ -102,26 +91,10 @@ def explained(program: str, words: Sequence[str], timed: Optional[str]) -> Tuple
     return status, findings
 
 
-def called_without_times(program: str, words: Sequence[str], name: str) -> Tuple[int, bytes]:
-    """The same of a log with times, of which it reads a copy. What it says of the copy is of the log."""
-    with open(name, encoding="latin-1", newline="") as log, tempfile.TemporaryFile() as said, \
-            tempfile.NamedTemporaryFile("w", prefix="wurstlinen.", encoding="latin-1", newline="") as copy:
-        copy.writelines(map(timeless, iter(lambda: log.readline(MOST_LINE), "")))
-        copy.flush()
-        try:
-            return called(program, [copy.name if word == name else word for word in words], said)
-        finally:
-            said.seek(0)
-            text = said.read().decode(errors="replace").replace(json.dumps(copy.name), json.dumps(name))
-            # Its status doesn't depend on who reads that.
-            with contextlib.suppress(OSError):
-                print(text, end="", file=sys.stderr, flush=True)
-
-
-def called(program: str, words: Sequence[str], errors: Optional[IO[bytes]] = None) -> Tuple[int, bytes]:
+def called(program: str, words: Sequence[str]) -> Tuple[int, bytes]:
     """The program's status, and what it prints. Raises NoPage."""
     try:
-        child = subprocess.Popen(["wurstlinen", *words], executable=program, stdout=subprocess.PIPE, stderr=errors)
+        child = subprocess.Popen(["wurstlinen", *words], executable=program, stdout=subprocess.PIPE)
     except OSError as fault:
         Output(False).note(f"{program}: {fault.strerror}")
         raise NoPage(NO_PROGRAM) from None

@@ -12,7 +12,6 @@ from typing import TYPE_CHECKING, Iterator, List, Optional, Sequence, Tuple, Uni
 from .. import commands
 from .._endings import end_by
 from .._standard_streams import finish, mend
-from .._times import has_times
 from ..front import main as front
 from ..front.main import AS_BYTES, AS_TEXT, PROGRAM
 from ..front.main import run as run_chosen
@@ -224,12 +223,10 @@ def run_explain(program: str, words: List[str]) -> int:
     files = [words[at] for at, name in parts(words) if not name]
     for name in files[:1]:
         note_other_log(name)
-    is_timed = any(map(has_times, files[:1]))
-    if not has_page and not is_timed:
+    if not page:
         return run_alone(program, words, False)
     from . import explaining
-    return explaining.explain(program, words, page, [*files, *filter(None, [option(words, "--rig"), names])], is_timed,
-                              names)
+    return explaining.explain(program, words, page, [*files, *filter(None, [option(words, "--rig"), names])], names)
 
 
 def line_of_discovery() -> str:
