@@ -1,6 +1,6 @@
 -- What is printed for a run: the findings about exactly its exchanges.
 use Rattle.std.specs.Prelude.{◌≡◌, ℕ, Bool, ◌&&◌, ◌||◌, not, List, [], ◌∷◌, ◌++◌, Option, Some, None, flat_map, filter}
-use Rattle.std.specs.Prelude.{is_some, if◌then◌else◌}
+use Rattle.std.specs.Prelude.{is_some, if◌then◌else◌, fold, ◌+◌}
 use Rattle.std.specs.List.{position}
 use Rattle.rdm_wire.specs.Uid.{has}
 use Rattle.rdm_wire.specs.Devices.{uids_of}
@@ -9,6 +9,7 @@ use Rattle.rdm_agent.specs.declared.kind.Kind.{Kind}
 use Rattle.rdm_agent.specs.declared.kind.Kind.TheVariants.{Full, Incremental}
 use Rattle.rdm_explain.specs.declared.certificate.KnownFinding.{KnownFinding}
 use Rattle.rdm_explain.specs.declared.exchange.Exchange.{Exchange}
+use Rattle.rdm_explain.specs.declared.rule.DeviceFinding.{DeviceFinding}
 use Rattle.rdm_explain.specs.declared.sighting.Sighting.{Sighting}
 use Rattle.rdm_explain.specs.Certificates.{ExplainsRun, ExplainsKnown}
 use Rattle.rdm_explain.specs.Exchanges.{seen_all}
@@ -134,10 +135,19 @@ bytes_text form head xs f =
     stray_finding form head.start f.due.items (decides_stray head f.certificate) xs (stray_of f)
     ++ garbled_finding form head.start head.flaw xs f.garbled ++ answered_finding form head.start xs
 
+-- how many of these devices acknowledged no mute, and n
+abbrev pub missing_after : RunUids → ℕ → List DeviceFinding → ℕ
+missing_after acked n fs = fold (λ n f. if in_uids acked f.uid then n else n + 1) n fs
+
+-- how many listed devices acknowledged no mute, if the log has all of the run
+abbrev pub missing_in : RunHead → List Exchange → Findings → ℕ
+missing_in head xs f = if shows_all head xs f then missing_after f.acked 0 f.devices.items else 0
+
 -- the findings about the run, its certificate and its silence
 abbrev pub run_text : Form → RunHead → List Exchange → Findings → List ℕ
 run_text form head xs f =
-    head_finding form head f.reported xs f.certificate f.names ++ run_gaps form head.start f.certificate f.names
+    head_finding form head f.reported (missing_in head xs f) xs f.certificate f.names
+    ++ run_gaps form head.start f.certificate f.names
     ++ quiet_text form head xs f.certificate
 
 -- Their text: a finding a line, or an object of JSON that has what is known of the run, and its findings

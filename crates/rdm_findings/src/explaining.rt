@@ -6,7 +6,7 @@ ghost use Rattle.rdm_findings.specs.FindingText.{any_broke, stray_finding, unles
 ghost use Rattle.rdm_findings.specs.Ends.{decides_stray};
 ghost use Rattle.rdm_findings.specs.Explained.{first_of, ExplainsNames, Finds, gone_of, with_one};
 ghost use Rattle.rdm_findings.specs.Explained.{findings_text, IsExplained, shows_all, is_broken, stray_of, facts_of};
-ghost use Rattle.rdm_findings.specs.Explained.{devices_text, bytes_text, run_text};
+ghost use Rattle.rdm_findings.specs.Explained.{devices_text, bytes_text, run_text, missing_after, missing_in};
 ghost use Rattle.rdm_findings.specs.RunJson.{before_run, run_end};
 
 use crate::device_text::write_devices;
@@ -244,12 +244,38 @@ fn write_run(
         form,
         head,
         &found.reported,
+        missing_in(head, exchanges, found),
         exchanges,
         &found.certificate,
         &found.names,
     )?;
     write_run_gaps(text, form, head.start, &found.certificate, &found.names)?;
     write_quiet(text, form, head, exchanges, &found.certificate)
+}
+
+// How many listed devices acknowledged no mute, if the log has all of the run.
+fn missing_in(head: &RunHead, exchanges: &[Exchange], found: &Findings) -> usize
+    ensures { result ≡ missing_in head.now exchanges.now found.now }
+{
+    if shows_all(head, exchanges, found) {
+        missing_of(&found.acked, &found.devices)
+    } else {
+        0
+    }
+}
+
+fn missing_of(acked: &RunUids, devices: &[DeviceFinding]) -> usize
+    ensures { result ≡ missing_after acked.now 0 devices.now }
+{
+    let mut missing = 0;
+    for device in devices {
+        missing = if acked.contains(device.uid) {
+            missing
+        } else {
+            missing + 1
+        };
+    }
+    missing
 }
 
 // Writes the findings about devices and bytes.

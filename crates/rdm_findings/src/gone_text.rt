@@ -14,7 +14,7 @@ use rdm_wire::Uid;
 use std::alloc::AllocError;
 
 const CULPRIT: &str =
-    " answered alone and then acknowledged no mute: it left, or broke a rule; try it alone on the line";
+    " answered alone and then no mute: it left, or broke a rule; take it off the line and discover again";
 
 /// Writes the finding about a UID that answered alone, and then acknowledged no mute, if there is one.
 pub(crate) fn write_culprit(
