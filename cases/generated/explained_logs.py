@@ -8,7 +8,7 @@ from __future__ import annotations
 from typing import Iterator
 
 from ..checker.case import Case
-from .runs import LIAR, answer, ask, discovery, mutes, opening, refuses, session_opening, session_run, shows
+from .runs import LIAR, answer, ask, discovery, misread, mutes, opening, refuses, session_opening, session_run, shows
 
 # A discovery that finds one device.
 FINDS = "3 unmute; all > found; mute found > ack; 5 all"
@@ -219,6 +219,39 @@ exchange 1027: bytes came after a mute of 1234:00000401, which isn't listed; \
 they may be noise, or those of a device that the log doesn't show
 """
 
+# Quick runs in which several UIDs that aren't listed were answered wrongly when they were asked alone, or answered
+# alone and then no mute. The last one isn't the only one that is judged.
+ADVICE = "take it off the line and discover again"
+WRONG = f"{{}} alone was asked, and its answer was wrong: {ADVICE} (exchange {{}})\n"
+NO_MUTE = f"{{}} answered alone and then no mute: it left, or broke a rule; {ADVICE}\n"
+FIRST_WRONG = """\
+exchange {0} (and {1} more): {2} alone was asked, and bytes came that aren't its answer; \
+a rule was broken, by a device or noise: take {2} off the line and discover again; if it isn't there, split the line
+"""
+SPARE, NEW_ONE = "1234:00000008", "9abc:00000002"
+LIARS = (
+    ("one that answers no mute, and then one that is answered wrongly",
+     "3 unmute; alone spare > spare; 5 mute spare; 4 alone liar > noise", f"13 exchanges, {GOES_ON}{UNCOVERED}"
+     + NO_MUTE.format(SPARE) + FIRST_WRONG.format(9, 3, LIAR)),
+    ("two that are answered wrongly, and then one that answers no mute",
+     "3 unmute; 4 alone spare > noise; 4 alone liar > noise; alone new > new; 5 mute new",
+     f"17 exchanges, {GOES_ON}{UNCOVERED}" + NO_MUTE.format(NEW_ONE) + WRONG.format(LIAR, 7)
+     + FIRST_WRONG.format(3, 7, SPARE)),
+    ("two that answer no mute, one of them twice",
+     "3 unmute; alone spare > spare; 5 mute spare; alone liar > liar; 5 mute liar; alone spare > spare; 5 mute spare",
+     f"21 exchanges, {GOES_ON}{UNCOVERED}" + NO_MUTE.format(SPARE) + NO_MUTE.format(LIAR)),
+    ("one of each before an exchange that fails, which blames nobody for mutes",
+     "3 unmute; 4 alone spare > noise; alone liar > liar; 5 mute liar; all > failed; alone new > noise",
+     "15 exchanges, 0 devices; others may be on the line\nexchange 13 failed: check the adapter and the cable\n"
+     + UNCOVERED + FIRST_WRONG.format(3, 3, SPARE)),
+)
+
+# 18 UIDs are answered wrongly. A run of this project sets at most 16 apart.
+MANY_WRONG = QUICK + discovery("3 unmute") + misread(18, first=3)
+OF_MANY = f"discovery: full, quick, 21 exchanges, {GOES_ON}{UNCOVERED}" + "".join(
+    WRONG.format(f"1234:{number:08x}", number + 2)
+    for number in range(2, 17)) + FIRST_WRONG.format(3, 17, "1234:00000001")
+
 # What no writer of logs writes, as the last line.
 BAD = (
     "\n",
@@ -260,6 +293,9 @@ def quick_runs() -> Iterator[Case]:
     yield shows("a quick run that ends, with a mute between bad answers", QUICK + discovery(f"3 unmute; {between}"),
                 f"discovery: full, quick, 12 exchanges, {ENDS}{UNTRIED}{UNCOVERED}{UNREAD}"
                 + GARBLED.format(" (and 8 more)"), 3)
+    for name, liars, said in LIARS:
+        yield shows(f"a quick run with {name}", QUICK + discovery(liars), f"discovery: full, quick, {said}", 3)
+    yield shows("a quick run with 18 that are answered wrongly", MANY_WRONG, OF_MANY, 3)
     for name, answers, said in (("goes on", 7, f"15 exchanges, {GOES_ON}"), ("ends", 8, f"16 exchanges, {ENDS}")):
         run = discovery(f"3 unmute; {answers} alone spare > spare; 5 mute spare")
         yield shows(f"a quick run that {name} after five mutes", QUICK + run,

@@ -15,7 +15,7 @@ use Rattle.rdm_findings.specs.declared.heard.RunUids.{RunUids}
 use Rattle.rdm_findings.specs.declared.mention.Mention.{Mention}
 use Rattle.rdm_findings.specs.declared.mention.RunFacts.{RunFacts}
 use Rattle.rdm_findings.specs.declared.misread.Misreads.{Misreads}
-use Rattle.rdm_findings.specs.FindingText.{exchange_name, uid_finding}
+use Rattle.rdm_findings.specs.FindingText.{exchange_name, off_advice, uid_finding}
 use Rattle.rdm_findings.specs.Forms.{finding}
 use Rattle.rdm_findings.specs.HeardUids.{in_uids}
 use Rattle.rdm_findings.specs.Mentions.{misread_in}
@@ -177,12 +177,33 @@ device_finding form r misreads heard acked f =
     finding form (of_device r f.uid (in_uids acked f.uid) (seen_at r misreads f.uid) f.breach)
     (uid_text f.uid ++ verdict_text r (in_uids heard f.uid) (in_uids acked f.uid) (seen_at r misreads f.uid) f.breach)
 
--- the finding about a device that answered a branch of it alone, and then acknowledged no mute, if there is one
-abbrev pub culprit_finding : Form → Option ℕ → List ℕ
-culprit_finding form None = []
-culprit_finding form (Some u) =
+-- the finding about a UID that answered a branch of it alone, and then acknowledged no mute
+abbrev pub culprit_finding : Form → ℕ → List ℕ
+culprit_finding form u =
     uid_finding form judged.Unmuted u
     (codes " answered alone and then no mute: it left, or broke a rule; take it off the line and discover again")
+
+-- The first exchange in which other bytes than its text answered a branch of u alone, unless the line about bytes that
+-- no honest line allows names u
+abbrev pub suspect_at : RunFacts → Misreads → ℕ → Option ℕ
+suspect_at r misreads u = if is_some (mentioned r.garbled u) then None else misread_at r misreads u
+
+-- what is said of such a UID, and of the exchange with this number
+abbrev pub suspect_text : ℕ → ℕ → List ℕ
+suspect_text u number =
+    codes " alone was asked, and its answer was wrong: " ++ off_advice u
+    ++ (codes " (exchange " ++ decimal number ++ codes ")")
+
+-- the finding about such a UID, if there is such an exchange
+abbrev pub suspect_found : Form → ℕ → Option ℕ → List ℕ
+suspect_found form u None = []
+suspect_found form u (Some number) =
+    finding form (record { judgement = judged.Garbled; uid = Some u; exchange = Some number })
+    (uid_text u ++ suspect_text u number)
+
+-- the same of a UID that isn't listed
+abbrev pub suspect_finding : Form → RunFacts → Misreads → ℕ → List ℕ
+suspect_finding form r misreads u = suspect_found form u (suspect_at r misreads u)
 
 -- what a known UID lacks, before its exchange
 abbrev pub gone_before : Rule → List ℕ

@@ -404,15 +404,15 @@ same_why u =
     else
     codes " alone was asked and answered, though it was muted: it restarted or broke a rule, or another has its UID; "
 
--- what to do about that
-abbrev pub same_advice : ℕ → List ℕ
-same_advice u =
+-- what to do about u
+abbrev pub off_advice : ℕ → List ℕ
+off_advice u =
     if is_broadcast u then codes "split the line and discover each half"
     else codes "take it off the line and discover again"
 
 -- both
 abbrev pub same_text : ℕ → List ℕ
-same_text u = same_why u ++ same_advice u
+same_text u = same_why u ++ off_advice u
 
 -- the same, or other bytes
 abbrev pub own_text : ℕ → Heard → List ℕ

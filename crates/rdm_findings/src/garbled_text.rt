@@ -2,7 +2,7 @@
 ghost use Rattle.std.specs.Prelude.{◌≡◌, ◌++◌, OnOk, codes};
 ghost use Rattle.rdm_wire.specs.UidText.{uid_text};
 ghost use Rattle.rdm_findings.specs.FindingText.{sighting_name, each_text, reply_text, garbled_text, garbled_found};
-ghost use Rattle.rdm_findings.specs.FindingText.{same_why, same_advice, same_text, own_text, other_bytes};
+ghost use Rattle.rdm_findings.specs.FindingText.{same_why, off_advice, same_text, own_text, other_bytes};
 ghost use Rattle.rdm_findings.specs.FindingText.{both_text, then_text, why_text, unacked_text};
 ghost use Rattle.rdm_findings.specs.FindingText.{garbled_finding, asked_uid, of_garbled};
 ghost use Rattle.rdm_findings.specs.Forms.{finding};
@@ -122,7 +122,7 @@ fn write_same(text: &mut Vec<u8>, uid: Uid) -> Result<(), AllocError>
     ensures { OnOk result (text.new.items ≡ text.old.items ++ same_text uid) }
 {
     write(text, same_why(uid))?;
-    write(text, same_advice(uid))
+    write(text, off_advice(uid))
 }
 
 // Why it shouldn't answer: no device has such a UID, or it is muted.
@@ -136,8 +136,9 @@ fn same_why(uid: Uid) -> &'static str
     }
 }
 
-fn same_advice(uid: Uid) -> &'static str
-    ensures { result.now ≡ same_advice uid }
+/// What to do about a UID.
+pub(crate) fn off_advice(uid: Uid) -> &'static str
+    ensures { result.now ≡ off_advice uid }
 {
     if uid.is_broadcast() {
         "split the line and discover each half"
