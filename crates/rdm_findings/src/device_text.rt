@@ -1,5 +1,5 @@
 //! What is printed about devices.
-ghost use Rattle.std.specs.Prelude.{◌≡◌, ◌++◌, Bool, OnOk, codes, decimal, flat_map};
+ghost use Rattle.std.specs.Prelude.{◌≡◌, ◌++◌, Bool, false, OnOk, codes, decimal, flat_map};
 ghost use Rattle.rdm_findings.specs.DeviceText.{breach_before, breach_after, followed_text, until_text, over_text};
 ghost use Rattle.rdm_findings.specs.DeviceText.{yet_text, yet_doubt, found_text, missed_text, calm_text};
 ghost use Rattle.rdm_findings.specs.DeviceText.{unbroken_text, unfound_doubt, before_doubt, doubt_text};
