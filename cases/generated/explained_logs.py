@@ -8,65 +8,66 @@ from __future__ import annotations
 from typing import Iterator
 
 from ..checker.case import Case
-from .runs import LIAR, answer, ask, discovery, mutes, opening, refuses, session_opening, session_run, shows
+from .runs import LIAR, answer, ask, discovery, misread, mutes, opening, refuses, session_opening, session_run, shows
 
 # A discovery that finds one device.
 FINDS = "3 unmute; all > found; mute found > ack; 5 all"
 FULL = opening("full")
 QUICK = FULL.replace("steady", "quick")
 UNCOVERED = """\
-0000:00000000 is the first UID that a missed device may have: five silences in a row of a range with it rule it out
+not settled: a device from 0000:00000000 up may be missing
 """
 UNTRIED = """\
 exchange 7 mutes a UID that neither acknowledged nor was muted five times in a row: perhaps no device has it
 """
 UNREAD = "exchange 7 mutes a UID that no earlier branch had read\n"
 # How a quick run goes on, and how it ends.
-GOES_ON = "0 devices; its certificate is incomplete, or the log ends within the run\n"
-ENDS = "fault 1 1234:00000008 (its answer showed no new device), 0 devices; its certificate is incomplete\n"
+GOES_ON = "0 devices; others may be on the line, or the log ends within the run\n"
+ENDS = "fault 1 1234:00000008 (asked alone, it couldn't be read or muted), 0 devices; others may be on the line\n"
 GARBLED = """\
-exchange 3{}: 1234:00000008 alone was asked, and bytes came that aren't its text; \
-a rule was broken, by it, another device or noise: try each device alone on the line
+exchange 3{}: 1234:00000008 alone was asked, and bytes came that aren't its answer; \
+a rule was broken, by a device or noise: take 1234:00000008 off the line and discover again; \
+if it isn't there, split the line
 """
 IGNORES = """\
-1234:00000008 answered alone and then acknowledged no mute: it left, or broke a rule; try it alone on the line
+1234:00000008 answered alone and then no mute: it left, or broke a rule; take it off the line and discover again
 """
 
 FOUND = """\
-discovery: full, steady, 10 exchanges, 1 device; its certificate is complete
+discovery: full, steady, 10 exchanges, 1 device; no other device is on the line if all follow the rules
 1234:00000001 was found, and followed the rules
 """
 
 # Without its opening.
 FOUND_UNOPENED = """\
-discovery: 10 exchanges, 1 device; its certificate is complete but for what depends on its kind, \
-which the log doesn't have
+discovery: 10 exchanges, 1 device; no other device is on the line if all follow the rules; \
+the log doesn't have the run's kind
 1234:00000001 was found, and followed the rules
 """
 
 # Its exchanges 0 to 3, exchange 3 alone, and those from 5.
 UNMUTED = """\
-discovery: full, steady, 4 exchanges, 0 devices; its certificate is incomplete, or the log ends within the run
-0000:00000000 is the first UID that a missed device may have: five silences in a row of a range with it rule it out
+discovery: full, steady, 4 exchanges, 0 devices; others may be on the line, or the log ends within the run
+not settled: a device from 0000:00000000 up may be missing
 exchange 3: the UIDs from 0000:00000000 to ffff:ffffffff were asked, \
 and bytes came though no listed device was due; \
 they read as 1234:00000001, which isn't listed: name it by --present, if it is there
 """
 
 ALONE = """\
-discovery: 1 exchange, 0 devices; its certificate can't be decided, since the log begins within the run
+discovery: 1 exchange, 0 devices; others may be on the line, as the log begins within the run
 exchange 3: the UIDs from 0000:00000000 to ffff:ffffffff were asked, \
 and bytes came though no listed device was due; \
 they read as 1234:00000001, which isn't listed: name it by --present, if it is there
 """
 
 CUT_BEFORE = """\
-discovery: 5 exchanges, 0 devices; its certificate can't be decided, since the log begins within the run
+discovery: 5 exchanges, 0 devices; others may be on the line, as the log begins within the run
 """
 
 # Its exchanges from 4, with another opening.
 OTHER_PART = """\
-discovery: {}, 6 exchanges, 1 device; its certificate can't be decided, since the log begins within the run
+discovery: {}, 6 exchanges, 1 device; others may be on the line, as the log begins within the run
 1234:00000001 was found, and followed the rules in the exchanges that the log has
 """
 
@@ -80,10 +81,10 @@ FAILING = (
 )
 
 FAILED = """\
-run 1: full, 2 exchanges, fault 4 (the line failed), 0 devices; its certificate is incomplete
+run 1: full, 2 exchanges, fault 4 (the line failed), 0 devices; others may be on the line
 exchange 2 should be one of the three unmutes that begin a run
 exchange 1 failed: check the adapter and the cable
-0000:00000000 is the first UID that a missed device may have: five silences in a row of a range with it rule it out
+not settled: a device from 0000:00000000 up may be missing
 """
 
 # A new session, and those of logs that continue one: no run is in progress, and discovery 1 may wait; or run 2 is in
@@ -116,7 +117,7 @@ THREE_RUNS = (
 # What one exchange leaves open.
 GAPS = """\
 exchange 1 should be one of the three unmutes that begin a run
-0000:00000000 is the first UID that a missed device may have: five silences in a row of a range with it rule it out
+not settled: a device from 0000:00000000 up may be missing
 """
 
 # A known device, in a run that ended too soon.
@@ -125,99 +126,131 @@ GONE = "1234:00000001 was known, and wasn't found: the run ended before it was c
 # Those that ended, and all of them.
 ENDED = f"""\
 run 1: incremental, quick, 1 exchange, fault 3 (its budget of 384008 frames is used up), 0 devices; \
-its certificate is incomplete
+others may be on the line
 {GAPS}\
-run 2: full, quick, 1 exchange, fault 3 (its budget of 384008 frames is used up), 0 devices; \
-its certificate is incomplete
+run 2: full, quick, 1 exchange, fault 3 (its budget of 384008 frames is used up), 0 devices; others may be on the line
 {GAPS}"""
 
 OF_KINDS = f"""\
 {ENDED}\
-run 3: incremental, quick, 1 exchange, 0 devices; its certificate is incomplete, or the log ends within the run
+run 3: incremental, quick, 1 exchange, 0 devices; others may be on the line, or the log ends within the run
 {GAPS}"""
 
 AFTER_WAITING = f"""\
-run 2: steady, 1 exchange, fault 3 (its budget of 384008 frames is used up), 0 devices; \
-its certificate is incomplete
+run 2: steady, 1 exchange, fault 3 (its budget of 384008 frames is used up), 0 devices; others may be on the line
 {GAPS}{GONE}\
 run 3: incremental, steady, 1 exchange, fault 3 (its budget of 384008 frames is used up), 0 devices; \
-its certificate is incomplete
+others may be on the line
 {GAPS}\
 1234:00000001 is known, but wasn't muted before the first branch
 {GONE}"""
 
 FROM_WITHIN = f"""\
 run 2: steady, 1 exchange, fault 3 (its budget of 384008 frames is used up), 0 devices; \
-its certificate can't be decided, since the log begins within the run; exchanges count from there
+others may be on the line, as the log begins within the run; exchanges count from there
 run 3: incremental, steady, 1 exchange, fault 3 (its budget of 384008 frames is used up), 0 devices; \
-its certificate is incomplete
+others may be on the line
 {GAPS}\
 1234:00000001 is known, but wasn't muted before the first branch
 {GONE}"""
 
 UNOPENED = f"""\
 run 2: 1 exchange, fault 3 (its budget of frames is used up), 0 devices; \
-its certificate can't be decided, since the log may begin within the run; exchanges count from there
-run 3: incremental, 1 exchange, fault 3 (its budget of frames is used up), 0 devices; its certificate is incomplete
+others may be on the line, as the log may begin within the run; exchanges count from there
+run 3: incremental, 1 exchange, fault 3 (its budget of frames is used up), 0 devices; others may be on the line
 {GAPS}"""
 
 OF_THREE_RUNS = f"""\
-run 1: full, quick, 10 exchanges, no fault, 1 device; its certificate is complete
+run 1: full, quick, 10 exchanges, no fault, 1 device; no other device is on the line if all follow the rules
 1234:00000001 was found, and followed the rules
 run 2: incremental, quick, 1 exchange, fault 3 (its budget of 384008 frames is used up), 0 devices; \
-its certificate is incomplete
+others may be on the line
 {GAPS}\
 1234:00000001 is known, but wasn't muted before the first branch
 {GONE}\
-run 3: incremental, quick, 1 exchange, 0 devices; its certificate is incomplete, or the log ends within the run
+run 3: incremental, quick, 1 exchange, 0 devices; others may be on the line, or the log ends within the run
 {GAPS}\
 1234:00000001 is known, but wasn't muted before the first branch
 """
 
 # A device that run 1 finds is off in run 2, which is full or incremental.
 FOUND_FIRST = """\
-run 1: full, quick, 10 exchanges, no fault, 1 device; its certificate is complete
+run 1: full, quick, 10 exchanges, no fault, 1 device; no other device is on the line if all follow the rules
 1234:00000001 was found, and followed the rules
 """
 QUIET = "no byte came in the whole run: check the adapter and the first cable\n"
 OFF_IN_FULL = f"""\
 {FOUND_FIRST}\
-run 2: full, quick, 8 exchanges, no fault, 0 devices; its certificate is complete
+run 2: full, quick, 8 exchanges, no fault, 0 devices; no other device is on the line if all follow the rules
 {QUIET}\
 1234:00000001 was known, and wasn't heard: exchange 7 is the fifth silence in a row in a range that holds it
 """
 OFF_IN_INCREMENTAL = f"""\
 {FOUND_FIRST}\
-run 2: incremental, quick, 13 exchanges, no fault, 0 devices; its certificate is complete
+run 2: incremental, quick, 13 exchanges, no fault, 0 devices; no other device is on the line if all follow the rules
 {QUIET}\
 1234:00000001 was known, and didn't answer five mutes: exchange 7 is the last of them
 """
 OFF_BUT_GIVEN = f"""\
 {FOUND_FIRST}\
-run 2: full, quick, 8 exchanges, no fault, 0 devices; its certificate is complete
+run 2: full, quick, 8 exchanges, no fault, 0 devices, but 1 listed device wasn't found; \
+no other device is on the line if all follow the rules
 {QUIET}\
-1234:00000001 was never heard: exchange 7 is the fifth silence in a row in a range that holds it; \
-check its power and its cable
+1234:00000001 was never heard: check its power, its cable, its UID and that RDM is on \
+(exchange 7 is the fifth silence in a row in a range that holds it)
 """
 
 # After the answer of run 1 the log has all of run 2.
 ANSWERED = answer(0, 1) + ask(1, "incremental") + session_run(2, "unmute") + answer(1, 2, fault=3)
 AFTER_ANSWER = f"""\
-run 2: incremental, 1 exchange, fault 3 (its budget of frames is used up), 0 devices; its certificate is incomplete
+run 2: incremental, 1 exchange, fault 3 (its budget of frames is used up), 0 devices; others may be on the line
 {GAPS}"""
 
 # 1,025 devices acknowledge mutes.
 TOO_MANY = FULL + discovery("3 unmute") + mutes(1025, first=3)
 CROWDED = """\
 discovery: full, steady, 1028 exchanges, fault 2 (more than 1,024 devices answered), 1024 devices; \
-its certificate is incomplete
+others may be on the line
 1234:00000401 acknowledged a mute, but isn't reported: a run reports at most 1,024 devices
-0000:00000000 is the first UID that a missed device may have: five silences in a row of a range with it rule it out
+not settled: a device from 0000:00000000 up may be missing
 exchange 3 mutes a UID that no earlier branch had read
 """ + "".join(f"1234:{number:08x} was found, and followed the rules\n" for number in range(1, 1025)) + """\
 exchange 1027: bytes came after a mute of 1234:00000401, which isn't listed; \
 they may be noise, or those of a device that the log doesn't show
 """
+
+# Quick runs in which several UIDs that aren't listed were answered wrongly when they were asked alone, or answered
+# alone and then no mute. The last one isn't the only one that is judged.
+ADVICE = "take it off the line and discover again"
+WRONG = f"{{}} alone was asked, and its answer was wrong: {ADVICE} (exchange {{}})\n"
+NO_MUTE = f"{{}} answered alone and then no mute: it left, or broke a rule; {ADVICE}\n"
+FIRST_WRONG = """\
+exchange {0} (and {1} more): {2} alone was asked, and bytes came that aren't its answer; \
+a rule was broken, by a device or noise: take {2} off the line and discover again; if it isn't there, split the line
+"""
+SPARE, NEW_ONE = "1234:00000008", "9abc:00000002"
+LIARS = (
+    ("one that answers no mute, and then one that is answered wrongly",
+     "3 unmute; alone spare > spare; 5 mute spare; 4 alone liar > noise", f"13 exchanges, {GOES_ON}{UNCOVERED}"
+     + NO_MUTE.format(SPARE) + FIRST_WRONG.format(9, 3, LIAR)),
+    ("two that are answered wrongly, and then one that answers no mute",
+     "3 unmute; 4 alone spare > noise; 4 alone liar > noise; alone new > new; 5 mute new",
+     f"17 exchanges, {GOES_ON}{UNCOVERED}" + NO_MUTE.format(NEW_ONE) + WRONG.format(LIAR, 7)
+     + FIRST_WRONG.format(3, 7, SPARE)),
+    ("two that answer no mute, one of them twice",
+     "3 unmute; alone spare > spare; 5 mute spare; alone liar > liar; 5 mute liar; alone spare > spare; 5 mute spare",
+     f"21 exchanges, {GOES_ON}{UNCOVERED}" + NO_MUTE.format(SPARE) + NO_MUTE.format(LIAR)),
+    ("one of each before an exchange that fails, which blames nobody for mutes",
+     "3 unmute; 4 alone spare > noise; alone liar > liar; 5 mute liar; all > failed; alone new > noise",
+     "15 exchanges, 0 devices; others may be on the line\nexchange 13 failed: check the adapter and the cable\n"
+     + UNCOVERED + FIRST_WRONG.format(3, 3, SPARE)),
+)
+
+# 18 UIDs are answered wrongly. A run of this project sets at most 16 apart.
+MANY_WRONG = QUICK + discovery("3 unmute") + misread(18, first=3)
+OF_MANY = f"discovery: full, quick, 21 exchanges, {GOES_ON}{UNCOVERED}" + "".join(
+    WRONG.format(f"1234:{number:08x}", number + 2)
+    for number in range(2, 17)) + FIRST_WRONG.format(3, 17, "1234:00000001")
 
 # What no writer of logs writes, as the last line.
 BAD = (
@@ -260,6 +293,9 @@ def quick_runs() -> Iterator[Case]:
     yield shows("a quick run that ends, with a mute between bad answers", QUICK + discovery(f"3 unmute; {between}"),
                 f"discovery: full, quick, 12 exchanges, {ENDS}{UNTRIED}{UNCOVERED}{UNREAD}"
                 + GARBLED.format(" (and 8 more)"), 3)
+    for name, liars, said in LIARS:
+        yield shows(f"a quick run with {name}", QUICK + discovery(liars), f"discovery: full, quick, {said}", 3)
+    yield shows("a quick run with 18 that are answered wrongly", MANY_WRONG, OF_MANY, 3)
     for name, answers, said in (("goes on", 7, f"15 exchanges, {GOES_ON}"), ("ends", 8, f"16 exchanges, {ENDS}")):
         run = discovery(f"3 unmute; {answers} alone spare > spare; 5 mute spare")
         yield shows(f"a quick run that {name} after five mutes", QUICK + run,

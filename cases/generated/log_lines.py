@@ -77,7 +77,7 @@ SENDS = (
     (f'{{"entry":"send","run":18446744073709551615,"frame":"{UNMUTE}"}}\n', 18446744073709551615),
 )
 OF_ONE = """\
-run {}: 1 exchange, 0 devices; its certificate can't be decided, since the log may begin within the run; \
+run {}: 1 exchange, 0 devices; others may be on the line, as the log may begin within the run; \
 exchanges count from there
 """
 
@@ -87,13 +87,13 @@ EXCHANGES = (
     ("""\
 {"number":0,"operation":"mute","frame":"cc01181234000000017a7000000100040100000010000200022e","reply":""}
 """, """\
-discovery: 1 exchange, 0 devices; its certificate is incomplete
+discovery: 1 exchange, 0 devices; others may be on the line
 exchange 0 should be one of the three unmutes that begin a run
 exchange 0 mutes a UID that neither acknowledged nor was muted five times in a row: perhaps no device has it
-0000:00000000 is the first UID that a missed device may have: five silences in a row of a range with it rule it out
+not settled: a device from 0000:00000000 up may be missing
 """, 0),
     (f'{{"number":18446744073709551615,"operation":"unmute","frame":"{UNMUTE}","failed":true}}\n', """\
-discovery: 1 exchange, 0 devices; its certificate can't be decided, since the log begins within the run
+discovery: 1 exchange, 0 devices; others may be on the line, as the log begins within the run
 exchange 18446744073709551615 failed: check the adapter and the cable
 """, 0),
     ("""\
@@ -101,7 +101,7 @@ exchange 18446744073709551615 failed: check the adapter and the cable
 "frame":"cc0124ffffffffffff7a700000010003010000001000010c000000000000ffffffffffff0df1",\
 "reply":"fefefefefefefeaaba57be75aa55aa55aa55ab55ae57eb55"}
 """, """\
-discovery: 1 exchange, 0 devices; its certificate can't be decided, since the log begins within the run
+discovery: 1 exchange, 0 devices; others may be on the line, as the log begins within the run
 exchange 1: the UIDs from 0000:00000000 to ffff:ffffffff were asked, \
 and bytes came though no listed device was due; \
 they read as 1234:00000001, which isn't listed: name it by --present, if it is there
@@ -109,18 +109,19 @@ they read as 1234:00000001, which isn't listed: name it by --present, if it is t
     ("""\
 {"number":4,"operation":"mute","frame":"cc01181234000000017a7000000100040100000010000200022e","reply":"00"}
 """, """\
-discovery: 1 exchange, 0 devices; its certificate can't be decided, since the log begins within the run
+discovery: 1 exchange, 0 devices; others may be on the line, as the log begins within the run
 exchange 4: bytes came after a mute of 1234:00000001 that don't acknowledge it: \
-they are too short for a response; a rule was broken, by it, another device or noise: try each device alone on the line
+they are too short for a response; a rule was broken, by a device or noise: \
+take 1234:00000001 off the line and discover again; if it isn't there, split the line
 """, 3),
 )
 
 # One unmute, after which bytes came.
 OF_UNMUTE = """\
-discovery: 1 exchange, 0 devices; its certificate is incomplete, or the log ends within the run
+discovery: 1 exchange, 0 devices; others may be on the line, or the log ends within the run
 exchange 1 should be one of the three unmutes that begin a run
-0000:00000000 is the first UID that a missed device may have: five silences in a row of a range with it rule it out
-exchange 0: bytes came after an unmute, which no device may answer: look for noise, or try each device alone
+not settled: a device from 0000:00000000 up may be missing
+exchange 0: bytes came after an unmute, which no device may answer: look for noise, or split the line
 """
 
 # What no writer of logs writes. A run's frames are unmutes, branches and mutes, each with its checksum.

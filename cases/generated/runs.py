@@ -118,6 +118,17 @@ def mutes(count: int, first: int) -> str:
     return "".join(lines)
 
 
+def misread(count: int, first: int) -> str:
+    """The lines of branches of so many UIDs alone, from 1234:00000001 on, after which noise comes."""
+    lines = []
+    for at in range(count):
+        number, uid = first + at, (UIDS["found"] + at).to_bytes(6, "big")
+        command = Packet(ALL_DEVICES, SOURCE, number % 256, PORT, 0, 0, CommandClass.DISCOVERY, Pid.DISC_UNIQUE_BRANCH,
+                         uid + uid)
+        lines.append(f'{{"number":{number},"operation":"branch","frame":"{command.encode().hex()}","reply":"00"}}\n')
+    return "".join(lines)
+
+
 def session_run(number: int, run: str) -> str:
     """The entries of a session's run with this number."""
     return "".join(

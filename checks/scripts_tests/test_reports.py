@@ -39,7 +39,7 @@ class Reports(Place):
         self.put_program(FINDING)
         words = ["discover", "--line", f"rig:{FIXTURES}"]
         end = ("the discovery is incomplete: 4444:00000009 was asked alone, and the answer was wrong: "
-               "try it alone on the line")
+               "take it off the line and discover again")
         self.expect(words, 1, "1234:00000001\n1234:00000002  part of 1234:00000001, has sub-devices\n"
                               f"1234:00000003  behind a proxy\n3 devices, 9 frames; {end}\n", "wurstlinen: a remark\n")
         done = self.call(*words, "--json")

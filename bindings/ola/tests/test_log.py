@@ -260,7 +260,8 @@ def check_explained(checks: Checks, program: Path, text: str, runs: Sequence[Run
     heads = [line for line in lines if line.startswith("discovery: ")]
     checks.check(len(heads) == len(runs), f"explain shows {len(heads)} of {len(runs)} runs: {lines}")
     for run, head in zip(runs, heads):
-        checks.check(run.has_failed or head.endswith("; its certificate is complete"), f"explain: {head}")
+        is_sure = head.endswith("; no other device is on the line if all follow the rules")
+        checks.check(run.has_failed or is_sure, f"explain: {head}")
 
 
 def check_found(checks: Checks, runs: Sequence[Run], scenes: Sequence[Scene]) -> None:

@@ -42,7 +42,7 @@ VERSION = "([0-9]{1,3})[.]([0-9]{1,3})"
 ALL_SUB_DEVICES = 0xFFFF
 # The faults of a run, by their numbers.
 RUN_FAULTS = {
-    1: "{uid} was asked alone, and the answer was wrong: try it alone on the line",
+    1: "{uid} was asked alone, and the answer was wrong: take it off the line and discover again",
     2: "more than 1024 devices answered",
     3: "the run has used up its budget of frames",
     4: "the line failed",

@@ -15,28 +15,30 @@ use Rattle.rdm_findings.specs.declared.heard.RunUids.{RunUids}
 use Rattle.rdm_findings.specs.declared.mention.Mention.{Mention}
 use Rattle.rdm_findings.specs.declared.mention.RunFacts.{RunFacts}
 use Rattle.rdm_findings.specs.declared.misread.Misreads.{Misreads}
-use Rattle.rdm_findings.specs.FindingText.{exchange_name, uid_finding}
+use Rattle.rdm_findings.specs.FindingText.{exchange_name, off_advice, uid_finding}
 use Rattle.rdm_findings.specs.Forms.{finding}
 use Rattle.rdm_findings.specs.HeardUids.{in_uids}
 use Rattle.rdm_findings.specs.Mentions.{misread_in}
 use Rattle.rdm_findings.specs.Starts.{has_start, number_at}
 
--- a breach, before its exchange. The log has all of a run in which a device was never heard
-abbrev pub breach_before : Bool → Rule → List ℕ
-breach_before never SilentBranches =
-    if never then codes " was never heard: exchange " else codes " didn't answer: exchange "
-breach_before never SilentMutes = codes " didn't mute: exchange "
-breach_before never GarbledMute = codes " lacks an acknowledgement of a mute: exchange "
+-- a breach and what to do about it, before the exchange that shows it. The first flag says that the device was heard in
+-- the exchanges that the log has, and the second that the log has all of the run. Only then it was never heard
+abbrev pub breach_before : (heard whole : Bool) → Rule → List ℕ
+breach_before heard whole SilentBranches =
+    if whole && not heard then
+    codes " was never heard: check its power, its cable, its UID and that RDM is on (exchange "
+    else codes " didn't answer: check its power and its cable (exchange "
+breach_before heard whole SilentMutes =
+    if heard then codes " didn't mute: take it off the line and discover again (exchange "
+    else codes " didn't mute: check its power, its cable, its UID and that RDM is on (exchange "
+breach_before heard whole GarbledMute =
+    codes " didn't acknowledge a mute: take it off the line and discover again (exchange "
 
--- and after it. The flag says that the device was heard in the exchanges that the log has
-abbrev pub breach_after : Bool → Rule → List ℕ
-breach_after heard SilentBranches =
-    codes " is the fifth silence in a row in a range that holds it; check its power and its cable"
-breach_after true SilentMutes = codes " is the fifth mute of it in a row without an answer; try it alone on the line"
-breach_after false SilentMutes =
-    codes " is the fifth mute of it in a row without an answer; check its power and its cable"
-breach_after heard GarbledMute =
-    codes " has other bytes; a rule was broken, by it, another device or noise: try it alone, then the others"
+-- and after it
+abbrev pub breach_after : Rule → List ℕ
+breach_after SilentBranches = codes " is the fifth silence in a row in a range that holds it)"
+breach_after SilentMutes = codes " is the fifth mute of it in a row without an answer)"
+breach_after GarbledMute = codes " has other bytes: a rule was broken, by it, another device or noise)"
 
 -- a device that followed the rules. `whole` says that the log has all of the run
 abbrev pub followed_text : Bool → List ℕ
@@ -58,35 +60,42 @@ over_text start None = codes "the run ended"
 over_text start (Some at) = exchange_name (number_at start at) ++ codes " failed"
 
 -- a device that acknowledged no mute, in a log that doesn't have all of the run. With the run's beginning, it would
--- show such an acknowledgement
+-- show such an acknowledgement. This comes before what it did
 abbrev pub yet_text : Bool → List ℕ
 yet_text begun = if begun then codes " wasn't found yet; it" else []
 
+-- The same before an exchange that leaves a doubt
+abbrev pub yet_doubt : Bool → List ℕ
+yet_doubt begun = if begun then codes " wasn't found yet; " else codes ": "
+
 -- a device that acknowledged no mute. In a run that is over, it may still be there: five silences in a row would have
 -- broken a rule
-abbrev pub unfound_text : RunFacts → List ℕ
-unfound_text r =
-    if r.whole then
-    codes " wasn't found: " ++ over_text r.start r.failure ++ codes " before it was clear whether it is there; it"
-    else yet_text (has_start r.start)
+abbrev pub missed_text : RunFacts → List ℕ
+missed_text r =
+    codes " wasn't found: " ++ over_text r.start r.failure ++ codes " before it was clear whether it is there; "
 
 -- that such a device broke no rule
 abbrev pub calm_text : RunFacts → List ℕ
 calm_text r =
-    if r.whole then codes " broke no rule until then"
-    else followed_text false ++ until_text r.start r.failure
+    if r.whole then missed_text r ++ codes "it broke no rule until then"
+    else yet_text (has_start r.start) ++ (followed_text false ++ until_text r.start r.failure)
 
 -- a device that broke no rule. The flag says that it acknowledged a mute
 abbrev pub unbroken_text : RunFacts → Bool → List ℕ
-unbroken_text r acked = if acked then found_text r else unfound_text r ++ calm_text r
+unbroken_text r acked = if acked then found_text r else calm_text r
+
+-- what comes before a doubt of a device that acknowledged no mute
+abbrev pub unfound_doubt : RunFacts → List ℕ
+unfound_doubt r = if r.whole then missed_text r else yet_doubt (has_start r.start)
 
 -- what comes before a doubt of a device
 abbrev pub before_doubt : RunFacts → Bool → List ℕ
-before_doubt r acked = if acked then codes " was found, but" else unfound_text r
+before_doubt r acked = if acked then codes " was found; " else unfound_doubt r
 
--- the doubt, and the exchange that shows it
+-- The doubt: an exchange in which its UID was asked alone, or was read, and an answer that no device should give.
+-- Another one may have sent that, with its UID or without
 abbrev pub doubt_text : ℕ → List ℕ
-doubt_text number = codes " may have broken a rule: see " ++ exchange_name number
+doubt_text number = exchange_name number ++ codes " has its UID and a bad answer, perhaps another device's"
 
 -- a device whose log doesn't show that it broke a rule; but the exchange with this number, if there is one, leaves a
 -- doubt
@@ -132,7 +141,7 @@ but_text acked = if acked then codes " was found, but" else []
 -- the rule that a device broke first, and where. The flag says that it was heard in the run
 abbrev pub breach_text : RunFacts → Bool → Breach → List ℕ
 breach_text r heard b =
-    breach_before (r.whole && not heard) b.rule ++ decimal (number_at r.start b.at) ++ breach_after heard b.rule
+    breach_before heard r.whole b.rule ++ decimal (number_at r.start b.at) ++ breach_after b.rule
 
 -- Whether a device was found, and which rule it broke first, if any. The flags say that it was heard in the run, and
 -- that it acknowledged a mute. The number is that of an exchange that leaves a doubt
@@ -168,12 +177,33 @@ device_finding form r misreads heard acked f =
     finding form (of_device r f.uid (in_uids acked f.uid) (seen_at r misreads f.uid) f.breach)
     (uid_text f.uid ++ verdict_text r (in_uids heard f.uid) (in_uids acked f.uid) (seen_at r misreads f.uid) f.breach)
 
--- the finding about a device that answered a branch of it alone, and then acknowledged no mute, if there is one
-abbrev pub culprit_finding : Form → Option ℕ → List ℕ
-culprit_finding form None = []
-culprit_finding form (Some u) =
+-- the finding about a UID that answered a branch of it alone, and then acknowledged no mute
+abbrev pub culprit_finding : Form → ℕ → List ℕ
+culprit_finding form u =
     uid_finding form judged.Unmuted u
-    (codes " answered alone and then acknowledged no mute: it left, or broke a rule; try it alone on the line")
+    (codes " answered alone and then no mute: it left, or broke a rule; take it off the line and discover again")
+
+-- The first exchange in which other bytes than its text answered a branch of u alone, unless the line about bytes that
+-- no honest line allows names u
+abbrev pub suspect_at : RunFacts → Misreads → ℕ → Option ℕ
+suspect_at r misreads u = if is_some (mentioned r.garbled u) then None else misread_at r misreads u
+
+-- what is said of such a UID, and of the exchange with this number
+abbrev pub suspect_text : ℕ → ℕ → List ℕ
+suspect_text u number =
+    codes " alone was asked, and its answer was wrong: " ++ off_advice u
+    ++ (codes " (exchange " ++ decimal number ++ codes ")")
+
+-- the finding about such a UID, if there is such an exchange
+abbrev pub suspect_found : Form → ℕ → Option ℕ → List ℕ
+suspect_found form u None = []
+suspect_found form u (Some number) =
+    finding form (record { judgement = judged.Garbled; uid = Some u; exchange = Some number })
+    (uid_text u ++ suspect_text u number)
+
+-- the same of a UID that isn't listed
+abbrev pub suspect_finding : Form → RunFacts → Misreads → ℕ → List ℕ
+suspect_finding form r misreads u = suspect_found form u (suspect_at r misreads u)
 
 -- what a known UID lacks, before its exchange
 abbrev pub gone_before : Rule → List ℕ

@@ -1,6 +1,6 @@
 -- Whether the log of a run shows that the run is over, how it ended, and whether it found each device.
 use Rattle.std.specs.Prelude.{ℕ, ◌-◌, Bool, true, false, ◌&&◌, ◌||◌, not, nat_le, nat_lt, List, Option, Some, None}
-use Rattle.std.specs.Prelude.{length, slice_get, is_some, drop, ◌==◌, if◌then◌else◌}
+use Rattle.std.specs.Prelude.{length, slice_get, is_some, drop, take, ◌==◌, if◌then◌else◌}
 use Rattle.std.specs.List.{list_any, list_all}
 use Rattle.rdm_wire.specs.Honest.{is_acked}
 use Rattle.rdm_wire.specs.Uid.{has, is_broadcast}
@@ -101,6 +101,12 @@ first_uid (Some u) second = Some u
 -- these. `found` has the devices that the run found
 abbrev pub never_muted : List ℕ → List Exchange → Option ℕ
 never_muted found xs = if_never_muted (last_of 5 xs) (new_alone_in found (from_end 6 xs))
+
+-- The UID that answered a branch of it alone, by this exchange, and then acknowledged none of five mutes, if these come
+-- next. `found` has the devices that the run found
+abbrev pub unmuted_at : List ℕ → Exchange → List Exchange → Option ℕ
+unmuted_at found e rest =
+    if nat_lt (length rest) 5 then None else if_never_muted (take 5 rest) (new_alone found e.asked e.heard)
 
 -- The UID with which a run of this project's agent ended as Corrupt, if these exchanges show that. `found` has the
 -- devices that the run found. The last exchange is a branch of one UID that was answered, but showed no new device. Or

@@ -1,14 +1,16 @@
 -- What is printed for a run: the findings about exactly its exchanges.
 use Rattle.std.specs.Prelude.{◌≡◌, ℕ, Bool, ◌&&◌, ◌||◌, not, List, [], ◌∷◌, ◌++◌, Option, Some, None, flat_map, filter}
-use Rattle.std.specs.Prelude.{is_some, if◌then◌else◌}
+use Rattle.std.specs.Prelude.{is_some, if◌then◌else◌, fold, length, nat_le, ◌+◌, ◌==◌}
 use Rattle.std.specs.List.{position}
 use Rattle.rdm_wire.specs.Uid.{has}
 use Rattle.rdm_wire.specs.Devices.{uids_of}
 use Rattle.rdm_agent.specs.Run.{acked_in}
+use Rattle.rdm_agent.specs.declared.limits.TheConstants.{MOST_APART}
 use Rattle.rdm_agent.specs.declared.kind.Kind.{Kind}
 use Rattle.rdm_agent.specs.declared.kind.Kind.TheVariants.{Full, Incremental}
 use Rattle.rdm_explain.specs.declared.certificate.KnownFinding.{KnownFinding}
 use Rattle.rdm_explain.specs.declared.exchange.Exchange.{Exchange}
+use Rattle.rdm_explain.specs.declared.rule.DeviceFinding.{DeviceFinding}
 use Rattle.rdm_explain.specs.declared.sighting.Sighting.{Sighting}
 use Rattle.rdm_explain.specs.Certificates.{ExplainsRun, ExplainsKnown}
 use Rattle.rdm_explain.specs.Exchanges.{seen_all}
@@ -21,13 +23,13 @@ use Rattle.rdm_findings.specs.declared.form.Form.{Form}
 use Rattle.rdm_findings.specs.declared.head.RunHead.{RunHead}
 use Rattle.rdm_findings.specs.declared.heard.RunUids.{RunUids}
 use Rattle.rdm_findings.specs.declared.mention.RunFacts.{RunFacts}
-use Rattle.rdm_findings.specs.DeviceText.{device_finding, culprit_finding, gone_finding}
-use Rattle.rdm_findings.specs.Ends.{is_whole, decides_stray, never_muted}
+use Rattle.rdm_findings.specs.DeviceText.{device_finding, culprit_finding, suspect_finding, gone_finding}
+use Rattle.rdm_findings.specs.Ends.{is_whole, decides_stray, unmuted_at}
 use Rattle.rdm_findings.specs.FindingText.{head_finding, run_gaps, quiet_text, stray_finding, garbled_finding}
 use Rattle.rdm_findings.specs.FindingText.{unless_garbled, any_broke, answered_finding}
 use Rattle.rdm_findings.specs.HeardUids.{heard_in, in_uids}
 use Rattle.rdm_findings.specs.RunJson.{before_run, run_end}
-use Rattle.rdm_findings.specs.Mentions.{garbled_mention, stray_mention, is_misread, misread_in}
+use Rattle.rdm_findings.specs.Mentions.{garbled_mention, stray_mention, is_misread, misread_by, misread_in}
 
 -- some UIDs, and then the others of a list
 abbrev pub with_others : List ℕ → List ℕ → List ℕ
@@ -45,22 +47,29 @@ listed reported present passing = staying passing (with_others reported present)
 abbrev pub with_passing : List ℕ → List ℕ → List ℕ → List ℕ
 with_passing reported present passing = listed reported present passing ++ passing
 
--- a UID, unless it is in a list
-abbrev pub unless_in : List ℕ → Option ℕ → Option ℕ
-unless_in us None = None
-unless_in us (Some u) = if has us u then None else Some u
+-- Some UIDs, and then another one, if there is one, and it is in neither list. At most so many as a run of this project
+-- sets apart
+abbrev pub with_suspect : (us suspects : List ℕ) → Option ℕ → List ℕ
+with_suspect us suspects None = suspects
+with_suspect us suspects (Some u) =
+    if nat_le MOST_APART (length suspects) || (has suspects u || has us u) then suspects else suspects ++ u ∷ []
 
--- The UID that answered alone, and then acknowledged no mute, at the end of a run that reports these devices. None if
--- an exchange failed, since nobody is to blame for that; or if it is in the list, which has the devices that are
--- listed, or come or leave
-abbrev pub culprit_of : Option ℕ → List ℕ → List ℕ → List Exchange → Option ℕ
-culprit_of (Some at) us reported xs = None
-culprit_of None us reported xs = unless_in us (never_muted reported xs)
+-- some UIDs, and then those that answered alone in these exchanges, and then acknowledged no mute
+abbrev pub unmuted_after : (us found suspects : List ℕ) → List Exchange → List ℕ
+unmuted_after us found suspects [] = suspects
+unmuted_after us found suspects (e ∷ rest) =
+    unmuted_after us found (with_suspect us suspects (unmuted_at found e rest)) rest
 
--- some UIDs, and then another one, if there is one
-abbrev pub with_one : List ℕ → Option ℕ → List ℕ
-with_one us None = us
-with_one us (Some u) = us ++ u ∷ []
+-- The UIDs that answered alone, and then acknowledged no mute, in a run that reports these devices, but none of the
+-- list, which has the devices that are listed, or come or leave. None if an exchange failed, since nobody is to blame
+-- for that
+abbrev pub culprits_of : Option ℕ → List ℕ → List ℕ → List Exchange → List ℕ
+culprits_of (Some at) us reported xs = []
+culprits_of None us reported xs = unmuted_after us reported [] xs
+
+-- some UIDs, and then those that were asked alone in these exchanges, and that other bytes answered than their text
+abbrev pub misread_after : (us suspects : List ℕ) → List Exchange → List ℕ
+misread_after us suspects xs = fold (λ s e. with_suspect us s (misread_by e.asked e.heard)) suspects xs
 
 -- the known UIDs that are neither in the set nor in the list; none if the log doesn't have the known ones
 abbrev pub gone_of : RunUids → List ℕ → Option (List ℕ) → List ℕ
@@ -80,10 +89,11 @@ ExplainsNames (Some first) xs None = ⊥
 ExplainsNames (Some first) xs (Some names) = ExplainsKnown first xs names
 
 -- The findings about these exchanges of a run: about its certificate of the devices whose mutes were acknowledged, and
--- about each of these and each of the list `present`, but none of `passing`, which come or leave. About the UID that
--- answered alone, and then acknowledged no mute; and about each known UID that acknowledged none. Then about bytes that
--- came though none of the listed devices, nor that UID, nor one of `passing` was due; and about bytes that no honest
--- line allows, whichever devices are on it
+-- about each of these and each of the list `present`, but none of `passing`, which come or leave. About the UIDs
+-- that answered alone, and then acknowledged no mute; about others that were answered wrongly when they were asked
+-- alone; and about each known UID that acknowledged no mute. Then about bytes that came though none of the listed
+-- devices, nor one of the UIDs that didn't mute, nor one of `passing` was due; and about bytes that no honest line
+-- allows, whichever devices are on it
 pub record Finds (kind : Option Kind) (known : Option (List ℕ)) (present passing : List ℕ) (xs : List Exchange)
     (f : Findings) : Type 0 where
   pub acknowledged : f.reported ≡ reported_in (seen_all xs)
@@ -91,13 +101,14 @@ pub record Finds (kind : Option Kind) (known : Option (List ℕ)) (present passi
   pub named : ExplainsNames (first_of kind known) xs f.names
   pub all : uids_of_findings f.devices.items ≡ listed (uids_of f.reported) present passing
   pub first_breaches : AreFirstBreaches xs f.devices.items
-  pub unmuted : f.culprit
-      ≡ culprit_of f.certificate.failure (with_passing (uids_of f.reported) present passing) (uids_of f.reported) xs
-  pub due : f.due.items ≡ with_one (with_passing (uids_of f.reported) present passing) f.culprit
+  pub unmuted : f.culprits.items
+      ≡ culprits_of f.certificate.failure (with_passing (uids_of f.reported) present passing) (uids_of f.reported) xs
+  pub due : f.due.items ≡ with_passing (uids_of f.reported) present passing ++ f.culprits.items
+  pub misread_alone : f.suspects.items ≡ misread_after f.due.items [] xs
   pub all_gone : uids_of_findings f.gone.items ≡ gone_of f.acked f.due.items known
   pub gone_breaches : AreFirstBreaches xs f.gone.items
   pub first_stray :
-      FirstStray (with_one (listed (uids_of f.reported) present passing) f.culprit) passing xs f.stray
+      FirstStray (listed (uids_of f.reported) present passing ++ f.culprits.items) passing xs f.stray
   pub first_garbled : FirstGarbled xs f.garbled
   -- the first exchange that misread each UID, the UIDs that were heard, and those that acknowledged a mute
   pub misread : (u : ℕ) → misread_in f.misreads u ≡ position (is_misread u) xs
@@ -122,11 +133,17 @@ facts_of head xs f = record {
   stray = stray_mention head.start f.due.items xs (stray_of f);
 }
 
+-- the findings about UIDs that aren't listed
+abbrev pub others_text : Form → RunFacts → Findings → List ℕ
+others_text form r f =
+    flat_map (culprit_finding form) f.culprits.items ++ flat_map (suspect_finding form r f.misreads) f.suspects.items
+    ++ flat_map (gone_finding form r) f.gone.items
+
 -- the findings about devices
 abbrev pub devices_text : Form → RunFacts → Findings → List ℕ
 devices_text form r f =
     flat_map (device_finding form r f.misreads f.heard f.acked) f.devices.items
-    ++ culprit_finding form f.culprit ++ flat_map (gone_finding form r) f.gone.items
+    ++ others_text form r f
 
 -- the findings about bytes
 abbrev pub bytes_text : Form → RunHead → List Exchange → Findings → List ℕ
@@ -134,10 +151,19 @@ bytes_text form head xs f =
     stray_finding form head.start f.due.items (decides_stray head f.certificate) xs (stray_of f)
     ++ garbled_finding form head.start head.flaw xs f.garbled ++ answered_finding form head.start xs
 
+-- how many of these devices acknowledged no mute, and n
+abbrev pub missing_after : RunUids → ℕ → List DeviceFinding → ℕ
+missing_after acked n fs = fold (λ n f. if in_uids acked f.uid then n else n + 1) n fs
+
+-- how many listed devices acknowledged no mute, if the log has all of the run
+abbrev pub missing_in : RunHead → List Exchange → Findings → ℕ
+missing_in head xs f = if shows_all head xs f then missing_after f.acked 0 f.devices.items else 0
+
 -- the findings about the run, its certificate and its silence
 abbrev pub run_text : Form → RunHead → List Exchange → Findings → List ℕ
 run_text form head xs f =
-    head_finding form head f.reported xs f.certificate f.names ++ run_gaps form head.start f.certificate f.names
+    head_finding form head f.reported (missing_in head xs f) xs f.certificate f.names
+    ++ run_gaps form head.start f.certificate f.names
     ++ quiet_text form head xs f.certificate
 
 -- Their text: a finding a line, or an object of JSON that has what is known of the run, and its findings
@@ -149,7 +175,7 @@ findings_text form head xs f =
 -- whether any finding is that a rule was broken. A known UID that is gone broke none
 abbrev pub is_broken : RunHead → Findings → Bool
 is_broken head f =
-    (any_broke f.devices.items || is_some f.garbled) || is_some f.culprit
+    (any_broke f.devices.items || is_some f.garbled) || not (length f.culprits.items == 0)
     || (decides_stray head f.certificate && is_some f.stray)
 
 -- The text has the findings about these exchanges of a run, and says whether a rule was broken. `any` says whether

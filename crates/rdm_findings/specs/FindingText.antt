@@ -88,7 +88,7 @@ spent_text (Some budget) = codes " (its budget of " ++ count_text budget (codes 
 
 -- what its fault says
 abbrev pub reason_text : Option ℕ → AgentFault → List ℕ
-reason_text budget (Corrupt u) = codes " (its answer showed no new device)"
+reason_text budget (Corrupt u) = codes " (asked alone, it couldn't be read or muted)"
 reason_text budget TooMany = codes " (more than 1,024 devices answered)"
 reason_text budget Exhausted = spent_text budget
 reason_text budget LineFailed = codes " (the line failed)"
@@ -100,21 +100,22 @@ end_text budget None = []
 end_text budget (Some None) = codes ", no fault"
 end_text budget (Some (Some fault)) = codes ", " ++ fault_text fault ++ reason_text budget fault
 
--- a certificate of which no part fails but those that can't be decided
+-- a certificate of which no part fails but those that depend on known UIDs. It shows that no device is on the line but
+-- those that the run reports, unless one broke a rule
 abbrev pub sound_text : Option Kind → Option KnownFinding → List ℕ
 sound_text kind (Some names) =
-    if is_known_complete names then codes "; its certificate is complete"
-    else codes "; its certificate is incomplete"
+    if is_known_complete names then codes "; no other device is on the line if all follow the rules"
+    else codes "; no other device is on the line if all follow the rules, but the run isn't regular"
 sound_text None None =
-    codes "; its certificate is complete but for what depends on its kind, which the log doesn't have"
+    codes "; no other device is on the line if all follow the rules; the log doesn't have the run's kind"
 sound_text (Some kind) None =
-    codes "; its certificate is complete but for its known devices, which the log doesn't have"
+    codes "; no other device is on the line if all follow the rules; the log doesn't have the run's known devices"
 
 -- a certificate of which a part fails. If that isn't decided, exchanges that the log doesn't have may mend it
 abbrev pub gap_text : Bool → List ℕ
 gap_text decided =
-    if decided then codes "; its certificate is incomplete"
-    else codes "; its certificate is incomplete, or the log ends within the run"
+    if decided then codes "; others may be on the line"
+    else codes "; others may be on the line, or the log ends within the run"
 
 -- the certificate, by the findings about its parts, if the log has the run's beginning
 abbrev pub begun_text : RunHead → Bool → RunFinding → Option KnownFinding → List ℕ
@@ -125,11 +126,9 @@ abbrev pub certificate_text : RunHead → Bool → RunFinding → Option KnownFi
 certificate_text head decided f names = elim head.start [
   | At number ↦
       if number == 0 then begun_text head decided f names
-      else codes "; its certificate can't be decided, since the log begins within the run"
-  | Later ↦
-      codes "; its certificate can't be decided, since the log begins within the run; exchanges count from there"
-  | Unknown ↦
-      codes "; its certificate can't be decided, since the log may begin within the run; exchanges count from there"
+      else codes "; others may be on the line, as the log begins within the run"
+  | Later ↦ codes "; others may be on the line, as the log begins within the run; exchanges count from there"
+  | Unknown ↦ codes "; others may be on the line, as the log may begin within the run; exchanges count from there"
 ]
 
 -- whether the certificate is complete, by the findings about the parts that depend on the known UIDs
@@ -150,32 +149,45 @@ run_judgement head decided f names = if has_start head.start then begun_judgemen
 abbrev pub what_text : RunHead → List ℕ
 what_text head = name_text head.number ++ codes ": " ++ (kind_text head.kind ++ search_text head.search)
 
+-- that so many listed devices weren't found, if there are any
+abbrev pub missing_text : ℕ → List ℕ
+missing_text missing =
+    if missing == 0 then []
+    else (if missing == 1 then codes ", but 1 listed device wasn't found"
+    else codes ", but " ++ decimal missing ++ codes " listed devices weren't found")
+
+-- how many devices a run reports, and how many that are listed it didn't find
+abbrev pub devices_count : (devices missing : ℕ) → List ℕ
+devices_count devices missing = count_text devices (codes " device") ++ missing_text missing
+
 -- how it ended, and how many devices it reports
-abbrev pub outcome_text : Option ℕ → Option (Option AgentFault) → ℕ → List ℕ
-outcome_text budget ending devices = end_text budget ending ++ codes ", " ++ count_text devices (codes " device")
+abbrev pub outcome_text : Option ℕ → Option (Option AgentFault) → (devices missing : ℕ) → List ℕ
+outcome_text budget ending devices missing = end_text budget ending ++ codes ", " ++ devices_count devices missing
 
 -- what the run was, how many exchanges it had, how it ended, if that is known, and how many devices it had
-abbrev pub head_text : RunHead → Option (Option AgentFault) → ℕ → ℕ → List ℕ
-head_text head ending exchanges devices =
-    what_text head ++ count_text exchanges (codes " exchange") ++ outcome_text head.budget ending devices
+abbrev pub head_text : RunHead → Option (Option AgentFault) → (exchanges devices missing : ℕ) → List ℕ
+head_text head ending exchanges devices missing =
+    what_text head ++ count_text exchanges (codes " exchange") ++ outcome_text head.budget ending devices missing
 
 -- whether gaps of the certificate are those of the run, and not only of its log: no exchange came after these, or none
 -- could mend them
 abbrev pub decides_gaps : RunHead → List Device → List Exchange → RunFinding → Option KnownFinding → Bool
 decides_gaps head reported xs f names = is_over head reported xs f || is_lost xs f names
 
--- what a run's first finding says
-abbrev pub head_sentence : RunHead → List Device → List Exchange → RunFinding → Option KnownFinding → List ℕ
-head_sentence head reported xs f names =
-    head_text head (end_of head reported xs f) (length xs) (length reported)
+-- what a run's first finding says. It didn't find so many listed devices
+abbrev pub head_sentence : RunHead → List Device → (missing : ℕ) → List Exchange → RunFinding → Option KnownFinding
+    → List ℕ
+head_sentence head reported missing xs f names =
+    head_text head (end_of head reported xs f) (length xs) (length reported) missing
     ++ certificate_text head (decides_gaps head reported xs f names) f names
 
 -- the first finding of a run
-abbrev pub head_finding : Form → RunHead → List Device → List Exchange → RunFinding → Option KnownFinding → List ℕ
-head_finding form head reported xs f names =
+abbrev pub head_finding : Form → RunHead → List Device → (missing : ℕ) → List Exchange → RunFinding
+    → Option KnownFinding → List ℕ
+head_finding form head reported missing xs f names =
     run_start form head (end_of head reported xs f) (length reported) xs
     (of_run (run_judgement head (decides_gaps head reported xs f names) f names))
-    ++ (head_sentence head reported xs f names ++ after_sentence form)
+    ++ (head_sentence head reported missing xs f names ++ after_sentence form)
 
 -- a part of the certificate that fails at an exchange
 abbrev pub exchange_gap : Form → Judgement → Option ℕ → List ℕ → List ℕ
@@ -205,22 +217,32 @@ start_gaps form f =
     (codes " acknowledged a mute, but isn't reported: a run reports at most 1,024 devices")
 
 -- whether this is the greatest UID, which addresses all devices
-abbrev pub is_greatest : Option ℕ → Bool
-is_greatest None = false
-is_greatest (Some u) = u == 281474976710655
+abbrev pub is_greatest : ℕ → Bool
+is_greatest u = u == 281474976710655
 
--- about the first UID that wasn't ruled out. If that is the greatest one, all others were
-abbrev pub uncovered_text : Option ℕ → List ℕ
-uncovered_text first =
-    if is_greatest first then codes " alone wasn't ruled out, and no device may have it"
-    else codes " is the first UID that a missed device may have: five silences in a row of a range with it rule it out"
+-- what a sentence says before the first UID that wasn't ruled out. If that is the greatest one, all others were
+abbrev pub uncovered_before : ℕ → List ℕ
+uncovered_before u = if is_greatest u then [] else codes "not settled: a device from "
+
+-- and after it
+abbrev pub uncovered_after : ℕ → List ℕ
+uncovered_after u =
+    if is_greatest u then codes " alone wasn't ruled out, and no device may have it"
+    else codes " up may be missing"
+
+-- the part about the first UID that wasn't ruled out, if there is one
+abbrev pub uncovered_gap : Form → Option ℕ → List ℕ
+uncovered_gap form None = []
+uncovered_gap form (Some u) =
+    finding form (of_uid judged.Gap u)
+    (uncovered_before u ++ uid_text u ++ uncovered_after u)
 
 -- the parts about mutes, UIDs that weren't ruled out, and what is reported of a device
 abbrev pub end_gaps : Form → RunFinding → List ℕ
 end_gaps form f =
     exchange_gap form judged.Gap f.untried
     (codes " mutes a UID that neither acknowledged nor was muted five times in a row: perhaps no device has it")
-    ++ uid_gap form f.uncovered (uncovered_text f.uncovered)
+    ++ uncovered_gap form f.uncovered
     ++ device_gap form f.other_data (codes " isn't reported as in its first acknowledgement")
 
 -- the parts of the certificate that fail
@@ -298,7 +320,7 @@ sign_text asked signs.Unread = []
 -- Without it a device that the log doesn't show may have sent them. In both cases it need not be the one that they
 -- read as
 abbrev pub advice_text : Bool → Sign → List ℕ
-advice_text true (signs.Listed u) = codes ": try it alone, then the others"
+advice_text true (signs.Listed u) = codes ": take it off the line and discover again"
 advice_text false (signs.Listed u) = codes "; or a device that the log doesn't show sent them"
 advice_text true (signs.Other u) = codes "; a rule was broken: name it by --present, if it is there"
 advice_text false (signs.Other u) = codes ": name it by --present, if it is there"
@@ -346,29 +368,51 @@ unless_garbled (Some garbled) None = None
 unless_garbled (Some garbled) (Some s) = if s.at == garbled.at then None else Some s
 
 -- what to do about bytes that no honest line allows, whichever devices are on it, after u was asked. A broadcast UID is
--- no device's
+-- no device's, so no single one can be taken off the line. Nor can u, if no device has it
 abbrev pub each_text : ℕ → List ℕ
 each_text u =
-    if is_broadcast u then codes "; a rule was broken, by a device or noise: try each device alone on the line"
-    else codes "; a rule was broken, by it, another device or noise: try each device alone on the line"
+    if is_broadcast u then codes "; a rule was broken, by a device or noise: split the line and discover each half"
+    else
+    codes "; a rule was broken, by a device or noise: take " ++ uid_text u
+    ++ codes " off the line and discover again; if it isn't there, split the line"
 
--- The same after a branch of u alone. Another device may have sent its own UID; but a third one may have sent it, or
--- replies that collide read so
+-- which device to take off the line next
+abbrev pub then_text : ℕ → List ℕ
+then_text u = if is_broadcast u then [] else codes "; then " ++ uid_text u
+
+-- The same after a branch of u alone, if the bytes are the text of v. Device v may have sent its own UID; but u or
+-- another one may have sent it, or replies that collide read so
+abbrev pub both_text : (u v : ℕ) → List ℕ
+both_text u v =
+    codes "; they read as " ++ uid_text v ++ codes "; a rule was broken, by a device or noise: take "
+    ++ (uid_text v ++ codes " off the line and discover again" ++ then_text u)
+
+-- what to do after a branch of u alone
 abbrev pub reply_text : ℕ → Heard → List ℕ
-reply_text u (One v) = if is_broadcast v then each_text u else codes "; they read as " ++ uid_text v ++ each_text v
+reply_text u (One v) = if is_broadcast v then each_text u else both_text u v
 reply_text u _ = each_text u
 
 -- after a branch of u alone: bytes that aren't its text
 abbrev pub other_bytes : ℕ → Heard → List ℕ
-other_bytes u heard = codes " alone was asked, and bytes came that aren't its text" ++ reply_text u heard
+other_bytes u heard = codes " alone was asked, and bytes came that aren't its answer" ++ reply_text u heard
 
--- after a branch of u alone, its text: no device has such a UID, or it is muted
-abbrev pub same_text : ℕ → List ℕ
-same_text u =
-    if is_broadcast u then
-    codes " alone was asked and answered, though no device may have it; a rule was broken: look for one that has it"
+-- after a branch of u alone, its text: no device has such a UID, or it is muted. In that case another device may have
+-- sent its UID
+abbrev pub same_why : ℕ → List ℕ
+same_why u =
+    if is_broadcast u then codes " alone was asked and answered, though no device may have it; a rule was broken: "
     else
-    codes " alone was asked and answered, though it was muted: it restarted, or broke a rule; try it alone on the line"
+    codes " alone was asked and answered, though it was muted: it restarted or broke a rule, or another has its UID; "
+
+-- what to do about u
+abbrev pub off_advice : ℕ → List ℕ
+off_advice u =
+    if is_broadcast u then codes "split the line and discover each half"
+    else codes "take it off the line and discover again"
+
+-- both
+abbrev pub same_text : ℕ → List ℕ
+same_text u = same_why u ++ off_advice u
 
 -- the same, or other bytes
 abbrev pub own_text : ℕ → Heard → List ℕ
@@ -432,7 +476,7 @@ abbrev pub answered_at : Form → Start → Option ℕ → List ℕ
 answered_at form start None = []
 answered_at form start (Some at) =
     exchange_finding form judged.Answered (number_at start at)
-    (codes ": bytes came after an unmute, which no device may answer: look for noise, or try each device alone")
+    (codes ": bytes came after an unmute, which no device may answer: look for noise, or split the line")
 
 -- the finding about the first unmute that was answered, if there is one
 abbrev pub answered_finding : Form → Start → List Exchange → List ℕ

@@ -1,5 +1,5 @@
 -- The devices that a run's lines about bytes name.
-use Rattle.std.specs.Prelude.{ℕ, Bool, false, ◌&&◌, not, List, Option, Some, None, slice_get, ◌==◌}
+use Rattle.std.specs.Prelude.{ℕ, Bool, false, ◌&&◌, not, List, Option, Some, None, slice_get, ◌==◌, if◌then◌else◌}
 use Rattle.std.specs.Ordering.{nat_cmp}
 use Rattle.std.specs.BTreeMap.{get}
 use Rattle.rdm_explain.specs.declared.exchange.Asked.{Asked}
@@ -55,6 +55,11 @@ misreads u _ heard = false
 -- the same of an exchange
 abbrev pub is_misread : ℕ → Exchange → Bool
 is_misread u e = misreads u e.asked e.heard
+
+-- the UID that was misread in an exchange
+abbrev pub misread_by : Asked → Heard → Option ℕ
+misread_by (Branch lo hi) heard = if misreads lo (Branch lo hi) heard then Some lo else None
+misread_by _ heard = None
 
 -- the index of the first such exchange of a run
 abbrev pub misread_in : Misreads → ℕ → Option ℕ

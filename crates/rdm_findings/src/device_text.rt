@@ -1,12 +1,14 @@
 //! What is printed about devices.
-ghost use Rattle.std.specs.Prelude.{◌≡◌, ◌++◌, OnOk, codes, decimal, flat_map};
+ghost use Rattle.std.specs.Prelude.{◌≡◌, ◌++◌, Bool, false, OnOk, codes, decimal, flat_map};
 ghost use Rattle.rdm_findings.specs.DeviceText.{breach_before, breach_after, followed_text, until_text, over_text};
-ghost use Rattle.rdm_findings.specs.DeviceText.{yet_text, found_text, unfound_text, calm_text, unbroken_text};
-ghost use Rattle.rdm_findings.specs.DeviceText.{before_doubt, doubt_text, innocent_text, verdict_text};
+ghost use Rattle.rdm_findings.specs.DeviceText.{yet_text, yet_doubt, found_text, missed_text, calm_text};
+ghost use Rattle.rdm_findings.specs.DeviceText.{unbroken_text, unfound_doubt, before_doubt, doubt_text};
+ghost use Rattle.rdm_findings.specs.DeviceText.{innocent_text, verdict_text};
 ghost use Rattle.rdm_findings.specs.DeviceText.{but_text, breach_text};
 ghost use Rattle.rdm_findings.specs.DeviceText.{device_finding, device_exchange, device_judgement, of_device};
 ghost use Rattle.rdm_findings.specs.DeviceText.{unbroken_judgement};
 ghost use Rattle.rdm_findings.specs.Forms.{finding};
+ghost use Rattle.rdm_findings.specs.Starts.{has_start};
 ghost use Rattle.rdm_wire.specs.UidText.{uid_text};
 
 use crate::form::{About, Form, Judgement, begin, end};
@@ -174,9 +176,9 @@ fn write_breach(
 ) -> Result<(), AllocError>
     ensures { OnOk result (text.new.items ≡ text.old.items ++ breach_text facts.now heard breach) }
 {
-    write(text, breach_before(facts.whole && !heard, breach.rule))?;
+    write(text, breach_before(heard, facts.whole, breach.rule))?;
     write_number(text, facts.start.number(breach.at))?;
-    write(text, breach_after(heard, breach.rule))
+    write(text, breach_after(breach.rule))
 }
 
 // A device whose log doesn't show that it broke a rule, and the exchange that leaves a doubt.
@@ -211,17 +213,37 @@ fn write_before_doubt(text: &mut Vec<u8>, facts: &RunFacts, acked: bool) -> Resu
     ensures { OnOk result (text.new.items ≡ text.old.items ++ before_doubt facts.now acked) }
 {
     if acked {
-        write(text, " was found, but")
+        write(text, " was found; ")
     } else {
-        write_unfound(text, facts)
+        write_unfound_doubt(text, facts)
     }
+}
+
+// That it wasn't found, or not yet, before the exchange.
+fn write_unfound_doubt(text: &mut Vec<u8>, facts: &RunFacts) -> Result<(), AllocError>
+    ensures { OnOk result (text.new.items ≡ text.old.items ++ unfound_doubt facts.now) }
+{
+    if facts.whole {
+        write_missed(text, facts.start, facts.failure)
+    } else {
+        write(text, yet_doubt(facts.start.is_first()))
+    }
+}
+
+fn yet_doubt(begun: bool) -> &'static str
+    ensures { result.now ≡ yet_doubt begun }
+{
+    if begun { " wasn't found yet; " } else { ": " }
 }
 
 fn write_doubt(text: &mut Vec<u8>, number: u64) -> Result<(), AllocError>
     ensures { OnOk result (text.new.items ≡ text.old.items ++ doubt_text number) }
 {
-    write(text, " may have broken a rule: see ")?;
-    write_exchange(text, number)
+    write_exchange(text, number)?;
+    write(
+        text,
+        " has its UID and a bad answer, perhaps another device's",
+    )
 }
 
 // A device that broke no rule.
@@ -231,7 +253,7 @@ fn write_unbroken(text: &mut Vec<u8>, facts: &RunFacts, acked: bool) -> Result<(
     if acked {
         write_found(text, facts)
     } else {
-        write_missed(text, facts)
+        write_calm(text, facts)
     }
 }
 
@@ -257,41 +279,41 @@ fn write_followed(
 }
 
 // That it wasn't found, or not yet, and broke no rule.
-fn write_missed(text: &mut Vec<u8>, facts: &RunFacts) -> Result<(), AllocError>
-    ensures { OnOk result (text.new.items ≡ text.old.items ++ (unfound_text facts.now ++ calm_text facts.now)) }
-{
-    write_unfound(text, facts)?;
-    write_calm(text, facts)
-}
-
 fn write_calm(text: &mut Vec<u8>, facts: &RunFacts) -> Result<(), AllocError>
     ensures { OnOk result (text.new.items ≡ text.old.items ++ calm_text facts.now) }
 {
     if facts.whole {
-        write(text, " broke no rule until then")
+        write_ended(text, facts)
     } else {
-        write_followed(text, false, facts.start, facts.failure)
-    }
-}
-
-fn write_unfound(text: &mut Vec<u8>, facts: &RunFacts) -> Result<(), AllocError>
-    ensures { OnOk result (text.new.items ≡ text.old.items ++ unfound_text facts.now) }
-{
-    if facts.whole {
-        write_ended(text, facts.start, facts.failure)
-    } else {
-        write(text, yet_text(facts.start.is_first()))
+        write_pending(text, facts)
     }
 }
 
 // That it wasn't found in a run that is over.
-fn write_ended(text: &mut Vec<u8>, start: Start, failure: Option<usize>) -> Result<(), AllocError>
+fn write_ended(text: &mut Vec<u8>, facts: &RunFacts) -> Result<(), AllocError>
+    ensures { OnOk result (text.new.items ≡ text.old.items
+        ++ (missed_text facts.now ++ codes "it broke no rule until then")) }
+{
+    write_missed(text, facts.start, facts.failure)?;
+    write(text, "it broke no rule until then")
+}
+
+// That it wasn't found yet in a run that isn't over.
+fn write_pending(text: &mut Vec<u8>, facts: &RunFacts) -> Result<(), AllocError>
+    ensures { OnOk result (text.new.items ≡ text.old.items ++ (yet_text (has_start facts.now.start)
+        ++ (followed_text false ++ until_text facts.now.start facts.now.failure))) }
+{
+    write(text, yet_text(facts.start.is_first()))?;
+    write_followed(text, false, facts.start, facts.failure)
+}
+
+fn write_missed(text: &mut Vec<u8>, start: Start, failure: Option<usize>) -> Result<(), AllocError>
     ensures { OnOk result (text.new.items ≡ text.old.items ++ (codes " wasn't found: "
-        ++ over_text start failure ++ codes " before it was clear whether it is there; it")) }
+        ++ over_text start failure ++ codes " before it was clear whether it is there; ")) }
 {
     write(text, " wasn't found: ")?;
     write_over(text, start, failure)?;
-    write(text, " before it was clear whether it is there; it")
+    write(text, " before it was clear whether it is there; ")
 }
 
 // Why the run was over.
@@ -342,39 +364,45 @@ fn write_until_failure(text: &mut Vec<u8>, number: u64) -> Result<(), AllocError
     write(text, " failed")
 }
 
-fn breach_before(never: bool, rule: Rule) -> &'static str
-    ensures { result.now ≡ breach_before never rule }
+fn breach_before(heard: bool, whole: bool, rule: Rule) -> &'static str
+    ensures { result.now ≡ breach_before heard whole rule }
 {
     match rule {
-        Rule::SilentBranches => {
-            if never {
-                " was never heard: exchange "
-            } else {
-                " didn't answer: exchange "
-            }
+        Rule::SilentBranches => silent_before(heard, whole),
+        Rule::SilentMutes => mutes_before(heard),
+        Rule::GarbledMute => {
+            " didn't acknowledge a mute: take it off the line and discover again (exchange "
         }
-        Rule::SilentMutes => " didn't mute: exchange ",
-        Rule::GarbledMute => " lacks an acknowledgement of a mute: exchange ",
     }
 }
 
-const UNACKNOWLEDGED: &str =
-    " has other bytes; a rule was broken, by it, another device or noise: try it alone, then the others";
+// Only in a run of which the log has all a device was never heard.
+fn silent_before(heard: bool, whole: bool) -> &'static str
+    ensures { result.now ≡ breach_before heard whole Rule.SilentBranches }
+{
+    if whole && !heard {
+        " was never heard: check its power, its cable, its UID and that RDM is on (exchange "
+    } else {
+        " didn't answer: check its power and its cable (exchange "
+    }
+}
 
-fn breach_after(heard: bool, rule: Rule) -> &'static str
-    ensures { result.now ≡ breach_after heard rule }
+fn mutes_before(heard: bool) -> &'static str
+    ensures { (whole : Bool) → result.now ≡ breach_before heard whole Rule.SilentMutes }
+{
+    if heard {
+        " didn't mute: take it off the line and discover again (exchange "
+    } else {
+        " didn't mute: check its power, its cable, its UID and that RDM is on (exchange "
+    }
+}
+
+fn breach_after(rule: Rule) -> &'static str
+    ensures { result.now ≡ breach_after rule }
 {
     match rule {
-        Rule::SilentBranches => {
-            " is the fifth silence in a row in a range that holds it; check its power and its cable"
-        }
-        Rule::SilentMutes => {
-            if heard {
-                " is the fifth mute of it in a row without an answer; try it alone on the line"
-            } else {
-                " is the fifth mute of it in a row without an answer; check its power and its cable"
-            }
-        }
-        Rule::GarbledMute => UNACKNOWLEDGED,
+        Rule::SilentBranches => " is the fifth silence in a row in a range that holds it)",
+        Rule::SilentMutes => " is the fifth mute of it in a row without an answer)",
+        Rule::GarbledMute => " has other bytes: a rule was broken, by it, another device or noise)",
     }
 }

@@ -8,7 +8,7 @@ ghost use Rattle.rdm_agent.specs.Run.{is_branch};
 ghost use Rattle.std.specs.List.{list_all};
 ghost use Rattle.rdm_findings.specs.Ends.{is_complete, is_known_complete, shows_new, new_alone, wrong_alone};
 ghost use Rattle.rdm_findings.specs.Ends.{new_alone_in, wrong_alone_in, from_end, last_of, is_lost_mute};
-ghost use Rattle.rdm_findings.specs.Ends.{lacks_acknowledgement, never_muted, corrupt_uid, corrupt_end};
+ghost use Rattle.rdm_findings.specs.Ends.{lacks_acknowledgement, never_muted, unmuted_at, corrupt_uid, corrupt_end};
 ghost use Rattle.rdm_findings.specs.Ends.{as_too_many, is_spent, as_exhausted, first_fault, shown_fault, with_fault};
 ghost use Rattle.rdm_findings.specs.Ends.{are_enough, if_enough};
 ghost use Rattle.rdm_findings.specs.Ends.{shown_end, end_of, shows_end, is_over, is_whole, decides_stray, has_bytes};
@@ -299,6 +299,20 @@ pub(crate) fn never_muted(found: &DeviceSet, exchanges: &[Exchange]) -> Option<U
 {
     match new_alone_in(found, from_end(6, exchanges)) {
         Some(uid) => uid_if(are_lost_mutes(uid, last_of(5, exchanges)), uid),
+        None => None,
+    }
+}
+
+/// The UID that answered a branch of it alone, by this exchange, and then acknowledged none of five mutes, if these
+/// come next.
+pub(crate) fn unmuted_at(found: &DeviceSet, exchange: &Exchange, rest: &[Exchange]) -> Option<Uid>
+    ensures { result ≡ unmuted_at (uids_of found.now) exchange.now rest.now }
+{
+    if rest.len() < 5 {
+        return None;
+    }
+    match new_alone(found, exchange.asked, &exchange.heard) {
+        Some(uid) => uid_if(are_lost_mutes(uid, &rest[..5]), uid),
         None => None,
     }
 }

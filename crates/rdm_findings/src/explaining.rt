@@ -4,9 +4,10 @@ ghost use Rattle.rdm_explain.specs.Rules.{AreFirstBreaches, uids_of_findings};
 ghost use Rattle.rdm_explain.specs.Strays.{FirstStray};
 ghost use Rattle.rdm_findings.specs.FindingText.{any_broke, stray_finding, unless_garbled};
 ghost use Rattle.rdm_findings.specs.Ends.{decides_stray};
-ghost use Rattle.rdm_findings.specs.Explained.{first_of, ExplainsNames, Finds, gone_of, with_one};
+ghost use Rattle.rdm_findings.specs.Explained.{first_of, ExplainsNames, Finds, gone_of};
 ghost use Rattle.rdm_findings.specs.Explained.{findings_text, IsExplained, shows_all, is_broken, stray_of, facts_of};
-ghost use Rattle.rdm_findings.specs.Explained.{devices_text, bytes_text, run_text};
+ghost use Rattle.rdm_findings.specs.Explained.{devices_text, others_text, bytes_text, run_text};
+ghost use Rattle.rdm_findings.specs.Explained.{missing_after, missing_in};
 ghost use Rattle.rdm_findings.specs.RunJson.{before_run, run_end};
 
 use crate::device_text::write_devices;
@@ -14,11 +15,11 @@ use crate::ending::{decides_stray, is_whole};
 use crate::form::Form;
 use crate::gap_text::{write_quiet, write_run_gaps};
 use crate::garbled_text::write_garbled;
-use crate::gone_text::{write_culprit, write_gone};
+use crate::gone_text::{write_culprits, write_gone, write_suspects};
 use crate::head::RunHead;
 use crate::head_text::write_head;
 use crate::heard::{RunUids, acknowledged_uids, heard_uids};
-use crate::listing::{add_one, culprit_of, gone_of, listed, with_passing};
+use crate::listing::{culprits_of, gone_of, listed, misread_uids, with_passing};
 use crate::mention::{RunFacts, garbled_mention, stray_mention};
 use crate::misread::Misreads;
 use crate::run_json::{write_before_run, write_run_end};
@@ -50,10 +51,12 @@ struct Findings {
     certificate: RunFinding,
     names: Option<KnownFinding>,
     devices: Vec<DeviceFinding>,
-    // The UID that answered alone, and then acknowledged no mute.
-    culprit: Option<Uid>,
-    // The listed devices, those that come or leave, and the one that acknowledged no mute.
+    // The UIDs that answered alone, and then acknowledged no mute.
+    culprits: Vec<Uid>,
+    // The listed devices, those that come or leave, and those that acknowledged no mute.
     due: Vec<Uid>,
+    // Others that were answered wrongly when they were asked alone.
+    suspects: Vec<Uid>,
     // The known UIDs that acknowledged no mute.
     gone: Vec<DeviceFinding>,
     stray: Option<Sighting>,
@@ -67,7 +70,8 @@ struct Findings {
 /// - whether they certify the devices whose mutes were acknowledged;
 /// - whether each of these, and each of the list `present`, was found and followed the rules, but none of `passing`,
 ///   which come or leave;
-/// - the UID that answered alone and then acknowledged no mute, and known ones that acknowledged none;
+/// - the UIDs that answered alone and then acknowledged no mute, others that were answered wrongly when they were asked
+///   alone, and known ones that acknowledged no mute;
 /// - where bytes came first though none of all these was due, and how often after that;
 /// - where bytes came first that no honest line allows, whichever devices are on it, and how often after that.
 ///
@@ -115,17 +119,23 @@ fn find(
         return Err(NoMemory);
     };
     let certificate = explain_run(alloc, &reported, exchanges)?;
-    let culprit = culprit_of(certificate.failure, &due, &reported, exchanges);
-    let judged = judge_listed(alloc, uids, culprit, passing, exchanges)?;
-    if add_one(&mut due, culprit).is_err() {
+    let Ok(culprits) = culprits_of(alloc, certificate.failure, &due, &reported, exchanges) else {
+        return Err(NoMemory);
+    };
+    let judged = judge_listed(alloc, uids, &culprits, passing, exchanges)?;
+    if due.extend_from_slice(&culprits).is_err() {
         return Err(NoMemory);
     }
+    let Ok(suspects) = misread_uids(alloc, &due, exchanges) else {
+        return Err(NoMemory);
+    };
     let acked = acknowledged_uids(alloc, exchanges)?;
     Ok(Findings {
         certificate,
         names: names(alloc, kind, known, exchanges)?,
         devices: judged.devices,
-        culprit,
+        culprits,
+        suspects,
         gone: gone(alloc, &acked, &due, known, exchanges)?,
         stray: judged.stray,
         garbled: first_garbled(alloc, exchanges)?,
@@ -137,22 +147,22 @@ fn find(
     })
 }
 
-// What is found of the listed devices, and of bytes that neither these nor the one without an acknowledgement were due
-// to send.
+// What is found of the listed devices, and of bytes that neither these nor those without an acknowledgement were due to
+// send.
 fn judge_listed(
     alloc: Global,
     mut uids: Vec<Uid>,
-    culprit: Option<Uid>,
+    culprits: &[Uid],
     passing: &[Uid],
     exchanges: &[Exchange],
 ) -> Result<Judged, NoMemory>
     ensures all { IfOk result (λ judged. uids_of_findings judged.devices.items ≡ uids.items) }
     ensures first { IfOk result (λ judged. AreFirstBreaches exchanges.now judged.devices.items) }
-    ensures stray { IfOk result (λ judged. FirstStray (with_one uids.items culprit) passing.now exchanges.now
+    ensures stray { IfOk result (λ judged. FirstStray (uids.items ++ culprits.now) passing.now exchanges.now
         judged.stray) }
 {
     let many = uids.len();
-    if add_one(&mut uids, culprit).is_err() {
+    if uids.extend_from_slice(culprits).is_err() {
         return Err(NoMemory);
     }
     judge(alloc, &uids, many, passing, exchanges)
@@ -244,12 +254,38 @@ fn write_run(
         form,
         head,
         &found.reported,
+        missing_in(head, exchanges, found),
         exchanges,
         &found.certificate,
         &found.names,
     )?;
     write_run_gaps(text, form, head.start, &found.certificate, &found.names)?;
     write_quiet(text, form, head, exchanges, &found.certificate)
+}
+
+// How many listed devices acknowledged no mute, if the log has all of the run.
+fn missing_in(head: &RunHead, exchanges: &[Exchange], found: &Findings) -> usize
+    ensures { result ≡ missing_in head.now exchanges.now found.now }
+{
+    if shows_all(head, exchanges, found) {
+        missing_of(&found.acked, &found.devices)
+    } else {
+        0
+    }
+}
+
+fn missing_of(acked: &RunUids, devices: &[DeviceFinding]) -> usize
+    ensures { result ≡ missing_after acked.now 0 devices.now }
+{
+    let mut missing = 0;
+    for device in devices {
+        missing = if acked.contains(device.uid) {
+            missing
+        } else {
+            missing + 1
+        };
+    }
+    missing
 }
 
 // Writes the findings about devices and bytes.
@@ -363,7 +399,20 @@ fn write_judged(
         &found.acked,
         &found.devices,
     )?;
-    write_culprit(text, form, found.culprit)?;
+    write_unlisted(text, form, facts, found)
+}
+
+// Writes the findings about UIDs that aren't listed.
+fn write_unlisted(
+    text: &mut Vec<u8>,
+    form: Form,
+    facts: &RunFacts,
+    found: &Findings,
+) -> Result<(), AllocError>
+    ensures { OnOk result (text.new.items ≡ text.old.items ++ others_text form facts.now found.now) }
+{
+    write_culprits(text, form, &found.culprits)?;
+    write_suspects(text, form, facts, &found.misreads, &found.suspects)?;
     write_gone(text, form, facts, &found.gone)
 }
 
@@ -379,7 +428,7 @@ fn is_broken(head: &RunHead, found: &Findings) -> bool
     ensures { result ≡ is_broken head.now found.now }
 {
     (any_broke(&found.devices) || found.garbled.is_some())
-        || found.culprit.is_some()
+        || !found.culprits.is_empty()
         || (decides_stray(head, &found.certificate) && found.stray.is_some())
 }
 

@@ -1,16 +1,18 @@
 //! The parts of a certificate that fail.
-ghost use Rattle.std.specs.Prelude.{◌≡◌, ◌++◌, OnOk};
-ghost use Rattle.rdm_findings.specs.FindingText.{is_greatest, uncovered_text};
+ghost use Rattle.std.specs.Prelude.{◌≡◌, ◌++◌, OnOk, Some};
+ghost use Rattle.rdm_wire.specs.UidText.{uid_text};
+ghost use Rattle.rdm_findings.specs.FindingText.{is_greatest, uncovered_before, uncovered_after, uncovered_gap};
 ghost use Rattle.rdm_findings.specs.FindingText.{device_gap, start_gaps, end_gaps, gaps_text};
 ghost use Rattle.std.specs.List.{list_all};
 ghost use Rattle.rdm_findings.specs.FindingText.{quiet_text, hears_nothing};
 ghost use Rattle.rdm_findings.specs.FindingText.{names_gaps, known_gaps, failure_gap, run_gaps};
 
 use crate::ending::decides_stray;
-use crate::form::{About, Form, Judgement};
+use crate::form::{About, Form, Judgement, begin, end};
 use crate::head::{RunHead, Start};
 use crate::writing::{
-    write_exchange_finding, write_exchange_gap, write_finding, write_uid_finding, write_uid_gap,
+    write, write_exchange_finding, write_exchange_gap, write_finding, write_uid, write_uid_finding,
+    write_uid_gap,
 };
 use rdm_explain::{Exchange, KnownFinding, RunFinding};
 use rdm_wire::{Device, Uid};
@@ -119,8 +121,7 @@ fn write_end_gaps(text: &mut Vec<u8>, form: Form, found: &RunFinding) -> Result<
     ensures { OnOk result (text.new.items ≡ text.old.items ++ end_gaps form found.now) }
 {
     write_exchange_gap(text, form, Judgement::Gap, found.untried, UNTRIED)?;
-    let uncovered = uncovered_text(found.uncovered);
-    write_uid_gap(text, form, found.uncovered, uncovered)?;
+    write_uncovered(text, form, found.uncovered)?;
     write_device_gap(
         text,
         form,
@@ -130,23 +131,56 @@ fn write_end_gaps(text: &mut Vec<u8>, form: Form, found: &RunFinding) -> Result<
 }
 
 // About the first UID that wasn't ruled out.
-fn uncovered_text(first: Option<Uid>) -> &'static str
-    ensures { result.now ≡ uncovered_text first }
+fn write_uncovered(text: &mut Vec<u8>, form: Form, first: Option<Uid>) -> Result<(), AllocError>
+    ensures { OnOk result (text.new.items ≡ text.old.items ++ uncovered_gap form first) }
 {
-    if is_greatest(first) {
-        " alone wasn't ruled out, and no device may have it"
-    } else {
-        " is the first UID that a missed device may have: five silences in a row of a range with it rule it out"
+    match first {
+        Some(uid) => write_unsettled(text, form, uid),
+        None => Ok(()),
     }
 }
 
-fn is_greatest(uid: Option<Uid>) -> bool
+fn write_unsettled(text: &mut Vec<u8>, form: Form, uid: Uid) -> Result<(), AllocError>
+    ensures { OnOk result (text.new.items ≡ text.old.items ++ uncovered_gap form (Some uid)) }
+{
+    begin(text, form, &About::uid(Judgement::Gap, uid))?;
+    write_around(text, uid)?;
+    end(text, form)
+}
+
+fn write_around(text: &mut Vec<u8>, uid: Uid) -> Result<(), AllocError>
+    ensures { OnOk result (text.new.items ≡ text.old.items
+        ++ (uncovered_before uid ++ uid_text uid ++ uncovered_after uid)) }
+{
+    write(text, uncovered_before(uid))?;
+    write_uid(text, uid)?;
+    write(text, uncovered_after(uid))
+}
+
+fn uncovered_before(uid: Uid) -> &'static str
+    ensures { result.now ≡ uncovered_before uid }
+{
+    if is_greatest(uid) {
+        ""
+    } else {
+        "not settled: a device from "
+    }
+}
+
+fn uncovered_after(uid: Uid) -> &'static str
+    ensures { result.now ≡ uncovered_after uid }
+{
+    if is_greatest(uid) {
+        " alone wasn't ruled out, and no device may have it"
+    } else {
+        " up may be missing"
+    }
+}
+
+fn is_greatest(uid: Uid) -> bool
     ensures { result ≡ is_greatest uid }
 {
-    match uid {
-        Some(uid) => uid == Uid::ALL,
-        None => false,
-    }
+    uid == Uid::ALL
 }
 
 fn write_device_gap(

@@ -2,7 +2,8 @@
 ghost use Rattle.std.specs.Prelude.{◌≡◌, ◌++◌, OnOk, codes};
 ghost use Rattle.rdm_wire.specs.UidText.{uid_text};
 ghost use Rattle.rdm_findings.specs.FindingText.{sighting_name, each_text, reply_text, garbled_text, garbled_found};
-ghost use Rattle.rdm_findings.specs.FindingText.{same_text, own_text, other_bytes, why_text, unacked_text};
+ghost use Rattle.rdm_findings.specs.FindingText.{same_why, off_advice, same_text, own_text, other_bytes};
+ghost use Rattle.rdm_findings.specs.FindingText.{both_text, then_text, why_text, unacked_text};
 ghost use Rattle.rdm_findings.specs.FindingText.{garbled_finding, asked_uid, of_garbled};
 ghost use Rattle.rdm_findings.specs.Forms.{finding};
 
@@ -112,19 +113,37 @@ fn write_own(text: &mut Vec<u8>, uid: Uid, heard: &Heard) -> Result<(), AllocErr
     ensures { OnOk result (text.new.items ≡ text.old.items ++ own_text uid heard.now) }
 {
     match heard {
-        Heard::One(read) if *read == uid => write(text, same_text(uid)),
+        Heard::One(read) if *read == uid => write_same(text, uid),
         _ => write_other_bytes(text, uid, heard),
     }
 }
 
+fn write_same(text: &mut Vec<u8>, uid: Uid) -> Result<(), AllocError>
+    ensures { OnOk result (text.new.items ≡ text.old.items ++ same_text uid) }
+{
+    write(text, same_why(uid))?;
+    write(text, off_advice(uid))
+}
+
 // Why it shouldn't answer: no device has such a UID, or it is muted.
-fn same_text(uid: Uid) -> &'static str
-    ensures { result.now ≡ same_text uid }
+fn same_why(uid: Uid) -> &'static str
+    ensures { result.now ≡ same_why uid }
 {
     if uid.is_broadcast() {
-        " alone was asked and answered, though no device may have it; a rule was broken: look for one that has it"
+        " alone was asked and answered, though no device may have it; a rule was broken: "
     } else {
-        " alone was asked and answered, though it was muted: it restarted, or broke a rule; try it alone on the line"
+        " alone was asked and answered, though it was muted: it restarted or broke a rule, or another has its UID; "
+    }
+}
+
+/// What to do about a UID.
+pub(crate) fn off_advice(uid: Uid) -> &'static str
+    ensures { result.now ≡ off_advice uid }
+{
+    if uid.is_broadcast() {
+        "split the line and discover each half"
+    } else {
+        "take it off the line and discover again"
     }
 }
 
@@ -163,7 +182,7 @@ fn write_other_bytes(text: &mut Vec<u8>, uid: Uid, heard: &Heard) -> Result<(), 
 {
     write(
         text,
-        " alone was asked, and bytes came that aren't its text",
+        " alone was asked, and bytes came that aren't its answer",
     )?;
     write_reply(text, uid, heard)
 }
@@ -182,18 +201,28 @@ fn write_reply(text: &mut Vec<u8>, uid: Uid, heard: &Heard) -> Result<(), AllocE
 fn write_each(text: &mut Vec<u8>, uid: Uid) -> Result<(), AllocError>
     ensures { OnOk result (text.new.items ≡ text.old.items ++ each_text uid) }
 {
-    write(text, each_text(uid))
+    if uid.is_broadcast() {
+        write(text, EACH_HALF)
+    } else {
+        write_off(text, uid)
+    }
 }
 
 // A broadcast UID is no device's.
-fn each_text(uid: Uid) -> &'static str
-    ensures { result.now ≡ each_text uid }
+const EACH_HALF: &str =
+    "; a rule was broken, by a device or noise: split the line and discover each half";
+
+fn write_off(text: &mut Vec<u8>, uid: Uid) -> Result<(), AllocError>
+    ensures { OnOk result (text.new.items ≡ text.old.items
+        ++ (codes "; a rule was broken, by a device or noise: take " ++ uid_text uid
+        ++ codes " off the line and discover again; if it isn't there, split the line")) }
 {
-    if uid.is_broadcast() {
-        "; a rule was broken, by a device or noise: try each device alone on the line"
-    } else {
-        "; a rule was broken, by it, another device or noise: try each device alone on the line"
-    }
+    write(text, "; a rule was broken, by a device or noise: take ")?;
+    write_uid(text, uid)?;
+    write(
+        text,
+        " off the line and discover again; if it isn't there, split the line",
+    )
 }
 
 fn write_spelt(text: &mut Vec<u8>, uid: Uid, read: Uid) -> Result<(), AllocError>
@@ -202,15 +231,50 @@ fn write_spelt(text: &mut Vec<u8>, uid: Uid, read: Uid) -> Result<(), AllocError
     if read.is_broadcast() {
         write_each(text, uid)
     } else {
-        write_other(text, read)
+        write_both(text, uid, read)
     }
 }
 
-fn write_other(text: &mut Vec<u8>, uid: Uid) -> Result<(), AllocError>
-    ensures { OnOk result (text.new.items ≡ text.old.items
-        ++ (codes "; they read as " ++ uid_text uid ++ each_text uid)) }
+// The bytes are the text of another UID.
+fn write_both(text: &mut Vec<u8>, uid: Uid, read: Uid) -> Result<(), AllocError>
+    ensures { OnOk result (text.new.items ≡ text.old.items ++ both_text uid read) }
+{
+    write_read(text, read)?;
+    write_turns(text, uid, read)
+}
+
+fn write_read(text: &mut Vec<u8>, read: Uid) -> Result<(), AllocError>
+    ensures { OnOk result (text.new.items ≡ text.old.items ++ (codes "; they read as " ++ uid_text read
+        ++ codes "; a rule was broken, by a device or noise: take ")) }
 {
     write(text, "; they read as ")?;
-    write_uid(text, uid)?;
-    write_each(text, uid)
+    write_uid(text, read)?;
+    write(text, "; a rule was broken, by a device or noise: take ")
+}
+
+// Which of the two is taken off first.
+fn write_turns(text: &mut Vec<u8>, uid: Uid, read: Uid) -> Result<(), AllocError>
+    ensures { OnOk result (text.new.items ≡ text.old.items
+        ++ (uid_text read ++ codes " off the line and discover again" ++ then_text uid)) }
+{
+    write_uid(text, read)?;
+    write(text, " off the line and discover again")?;
+    write_then(text, uid)
+}
+
+fn write_then(text: &mut Vec<u8>, uid: Uid) -> Result<(), AllocError>
+    ensures { OnOk result (text.new.items ≡ text.old.items ++ then_text uid) }
+{
+    if uid.is_broadcast() {
+        Ok(())
+    } else {
+        write_next(text, uid)
+    }
+}
+
+fn write_next(text: &mut Vec<u8>, uid: Uid) -> Result<(), AllocError>
+    ensures { OnOk result (text.new.items ≡ text.old.items ++ (codes "; then " ++ uid_text uid)) }
+{
+    write(text, "; then ")?;
+    write_uid(text, uid)
 }

@@ -1,33 +1,99 @@
-//! What is printed about UIDs that acknowledged no mute though they answered alone, or were known.
-ghost use Rattle.std.specs.Prelude.{◌≡◌, ◌++◌, OnOk, decimal, flat_map};
+//! What is printed about UIDs that acknowledged no mute though they answered alone, or were known, and about those that
+//! were answered wrongly when they were asked alone.
+ghost use Rattle.std.specs.Prelude.{◌≡◌, ◌++◌, OnOk, Some, codes, decimal, flat_map};
 ghost use Rattle.rdm_wire.specs.UidText.{uid_text};
 ghost use Rattle.rdm_findings.specs.DeviceText.{culprit_finding, gone_before, gone_after, gone_finding, of_gone};
+ghost use Rattle.rdm_findings.specs.DeviceText.{suspect_text, suspect_found, suspect_finding};
 ghost use Rattle.rdm_findings.specs.Forms.{finding};
 ghost use Rattle.rdm_findings.specs.Starts.{number_at};
 
 use crate::form::{About, Form, Judgement, begin, end};
+use crate::garbled_text::off_advice;
 use crate::head::Start;
 use crate::mention::RunFacts;
+use crate::misread::Misreads;
 use crate::writing::{write, write_number, write_uid, write_uid_finding};
 use rdm_explain::{Breach, DeviceFinding, Rule};
 use rdm_wire::Uid;
 use std::alloc::AllocError;
 
 const CULPRIT: &str =
-    " answered alone and then acknowledged no mute: it left, or broke a rule; try it alone on the line";
+    " answered alone and then no mute: it left, or broke a rule; take it off the line and discover again";
 
-/// Writes the finding about a UID that answered alone, and then acknowledged no mute, if there is one.
-pub(crate) fn write_culprit(
+/// Writes a finding about each UID that answered alone, and then acknowledged no mute.
+pub(crate) fn write_culprits(
     text: &mut Vec<u8>,
     form: Form,
-    culprit: Option<Uid>,
+    culprits: &[Uid],
 ) -> Result<(), AllocError>
-    ensures { OnOk result (text.new.items ≡ text.old.items ++ culprit_finding form culprit) }
+    ensures { OnOk result (text.new.items ≡ text.old.items ++ flat_map (culprit_finding form) culprits.now) }
 {
-    match culprit {
-        Some(uid) => write_uid_finding(text, form, Judgement::Unmuted, uid, CULPRIT),
+    'culprits: for uid in culprits {
+        write_uid_finding(text, form, Judgement::Unmuted, *uid, CULPRIT)?;
+    }
+    Ok(())
+}
+
+/// Writes a finding about each UID that was answered wrongly when it was asked alone, unless another line names it.
+pub(crate) fn write_suspects(
+    text: &mut Vec<u8>,
+    form: Form,
+    facts: &RunFacts,
+    misreads: &Misreads,
+    suspects: &[Uid],
+) -> Result<(), AllocError>
+    ensures { OnOk result (text.new.items ≡ text.old.items
+        ++ flat_map (suspect_finding form facts.now misreads.now) suspects.now) }
+{
+    'suspects: for uid in suspects {
+        write_suspect(text, form, *uid, facts.suspect_at(misreads, *uid))?;
+    }
+    Ok(())
+}
+
+fn write_suspect(
+    text: &mut Vec<u8>,
+    form: Form,
+    uid: Uid,
+    at: Option<u64>,
+) -> Result<(), AllocError>
+    ensures { OnOk result (text.new.items ≡ text.old.items ++ suspect_found form uid at) }
+{
+    match at {
+        Some(number) => write_suspected(text, form, uid, number),
         None => Ok(()),
     }
+}
+
+fn write_suspected(text: &mut Vec<u8>, form: Form, uid: Uid, number: u64) -> Result<(), AllocError>
+    ensures { OnOk result (text.new.items ≡ text.old.items ++ suspect_found form uid (Some number)) }
+{
+    let about = About {
+        judgement: Judgement::Garbled,
+        uid: Some(uid),
+        exchange: Some(number),
+    };
+    begin(text, form, &about)?;
+    write_uid(text, uid)?;
+    write_wrong(text, uid, number)?;
+    end(text, form)
+}
+
+fn write_wrong(text: &mut Vec<u8>, uid: Uid, number: u64) -> Result<(), AllocError>
+    ensures { OnOk result (text.new.items ≡ text.old.items ++ suspect_text uid number) }
+{
+    write(text, " alone was asked, and its answer was wrong: ")?;
+    write(text, off_advice(uid))?;
+    write_place(text, number)
+}
+
+fn write_place(text: &mut Vec<u8>, number: u64) -> Result<(), AllocError>
+    ensures { OnOk result (text.new.items ≡ text.old.items
+        ++ (codes " (exchange " ++ decimal number ++ codes ")")) }
+{
+    write(text, " (exchange ")?;
+    write_number(text, number)?;
+    write(text, ")")
 }
 
 /// Writes a finding about each known UID that acknowledged no mute.

@@ -1,11 +1,11 @@
 //! The first finding of a run.
-ghost use Rattle.std.specs.Prelude.{◌≡◌, ◌++◌, OnOk, codes};
+ghost use Rattle.std.specs.Prelude.{◌≡◌, ◌++◌, OnOk, codes, decimal};
 ghost use Rattle.rdm_reports.specs.Report.{fault_text};
 ghost use Rattle.rdm_findings.specs.FindingText.{name_text, kind_text, search_text, what_text, end_text, outcome_text};
 ghost use Rattle.rdm_findings.specs.FindingText.{sound_text, gap_text, begun_text, certificate_text, decides_gaps};
 ghost use Rattle.rdm_findings.specs.Ends.{end_of};
 ghost use Rattle.rdm_findings.specs.FindingText.{head_text, head_finding, head_sentence, reason_text, spent_text};
-ghost use Rattle.rdm_findings.specs.FindingText.{count_text};
+ghost use Rattle.rdm_findings.specs.FindingText.{count_text, missing_text, devices_count};
 ghost use Rattle.rdm_findings.specs.FindingText.{sound_judgement, begun_judgement, run_judgement};
 ghost use Rattle.rdm_findings.specs.Forms.{after_sentence};
 
@@ -19,24 +19,25 @@ use rdm_explain::{Exchange, KnownFinding, RunFinding};
 use rdm_wire::DeviceSet;
 use std::alloc::AllocError;
 
-/// Writes the first finding of a run. In JSON the run's members precede it.
+/// Writes the first finding of a run, which didn't find so many listed devices. In JSON the run's members precede it.
 pub(crate) fn write_head(
     text: &mut Vec<u8>,
     form: Form,
     head: &RunHead,
     reported: &DeviceSet,
+    missing: usize,
     exchanges: &[Exchange],
     certificate: &RunFinding,
     names: &Option<KnownFinding>,
 ) -> Result<(), AllocError>
     ensures { OnOk result (text.new.items ≡ text.old.items
-        ++ head_finding form head.now reported.now exchanges.now certificate.now names.now) }
+        ++ head_finding form head.now reported.now missing exchanges.now certificate.now names.now) }
 {
     let ending = end_of(head, reported, exchanges, certificate);
     let decided = decides_gaps(head, reported, exchanges, certificate, names);
     let about = About::run(run_judgement(head, decided, certificate, names));
     write_run_start(text, form, head, ending, reported.len(), exchanges, &about)?;
-    write_sentence(text, head, reported, exchanges, certificate, names)?;
+    write_sentence(text, head, reported, missing, exchanges, certificate, names)?;
     end(text, form)
 }
 
@@ -44,16 +45,17 @@ fn write_sentence(
     text: &mut Vec<u8>,
     head: &RunHead,
     reported: &DeviceSet,
+    missing: usize,
     exchanges: &[Exchange],
     certificate: &RunFinding,
     names: &Option<KnownFinding>,
 ) -> Result<(), AllocError>
     ensures { OnOk result (text.new.items ≡ text.old.items
-        ++ head_sentence head.now reported.now exchanges.now certificate.now names.now) }
+        ++ head_sentence head.now reported.now missing exchanges.now certificate.now names.now) }
 {
     let ending = end_of(head, reported, exchanges, certificate);
     let decided = decides_gaps(head, reported, exchanges, certificate, names);
-    write_run(text, head, ending, exchanges.len(), reported.len())?;
+    write_run(text, head, ending, exchanges.len(), reported.len(), missing)?;
     write(text, certificate_text(head, decided, certificate, names))
 }
 
@@ -125,12 +127,14 @@ fn write_run(
     ending: Option<Option<AgentFault>>,
     exchanges: usize,
     reported: usize,
+    missing: usize,
 ) -> Result<(), AllocError>
-    ensures { OnOk result (text.new.items ≡ text.old.items ++ head_text head.now ending exchanges reported) }
+    ensures { OnOk result (text.new.items ≡ text.old.items
+        ++ head_text head.now ending exchanges reported missing) }
 {
     write_what(text, head)?;
     write_count(text, exchanges as u64, " exchange")?;
-    write_outcome(text, head.budget, ending, reported)
+    write_outcome(text, head.budget, ending, reported, missing)
 }
 
 // The run's name, its kind, and how it searched.
@@ -188,12 +192,46 @@ fn write_outcome(
     budget: Option<u64>,
     ending: Option<Option<AgentFault>>,
     reported: usize,
+    missing: usize,
 ) -> Result<(), AllocError>
-    ensures { OnOk result (text.new.items ≡ text.old.items ++ outcome_text budget ending reported) }
+    ensures { OnOk result (text.new.items ≡ text.old.items ++ outcome_text budget ending reported missing) }
 {
     write_ending(text, budget, ending)?;
     write(text, ", ")?;
-    write_count(text, reported as u64, " device")
+    write_devices_count(text, reported, missing)
+}
+
+fn write_devices_count(
+    text: &mut Vec<u8>,
+    reported: usize,
+    missing: usize,
+) -> Result<(), AllocError>
+    ensures { OnOk result (text.new.items ≡ text.old.items ++ devices_count reported missing) }
+{
+    write_count(text, reported as u64, " device")?;
+    write_missing(text, missing)
+}
+
+// That so many listed devices weren't found, if there are any.
+fn write_missing(text: &mut Vec<u8>, missing: usize) -> Result<(), AllocError>
+    ensures { OnOk result (text.new.items ≡ text.old.items ++ missing_text missing) }
+{
+    if missing == 0 {
+        Ok(())
+    } else if missing == 1 {
+        write(text, ", but 1 listed device wasn't found")
+    } else {
+        write_several(text, missing)
+    }
+}
+
+fn write_several(text: &mut Vec<u8>, missing: usize) -> Result<(), AllocError>
+    ensures { OnOk result (text.new.items ≡ text.old.items
+        ++ (codes ", but " ++ decimal missing ++ codes " listed devices weren't found")) }
+{
+    write(text, ", but ")?;
+    write_number(text, missing as u64)?;
+    write(text, " listed devices weren't found")
 }
 
 fn write_ending(
@@ -232,7 +270,7 @@ fn write_reason(
     ensures { OnOk result (text.new.items ≡ text.old.items ++ reason_text budget fault.now) }
 {
     match fault {
-        AgentFault::Corrupt(_) => write(text, " (its answer showed no new device)"),
+        AgentFault::Corrupt(_) => write(text, " (asked alone, it couldn't be read or muted)"),
         AgentFault::TooMany => write(text, " (more than 1,024 devices answered)"),
         AgentFault::Exhausted => write_spent(text, budget),
         AgentFault::LineFailed => write(text, " (the line failed)"),
@@ -287,7 +325,7 @@ fn certificate_text(
             if number == 0 {
                 begun_text(head, decided, certificate, names)
             } else {
-                "; its certificate can't be decided, since the log begins within the run"
+                "; others may be on the line, as the log begins within the run"
             }
         }
         Start::Later => LATER,
@@ -296,10 +334,10 @@ fn certificate_text(
 }
 
 const LATER: &str =
-    "; its certificate can't be decided, since the log begins within the run; exchanges count from there";
+    "; others may be on the line, as the log begins within the run; exchanges count from there";
 
 const UNKNOWN: &str =
-    "; its certificate can't be decided, since the log may begin within the run; exchanges count from there";
+    "; others may be on the line, as the log may begin within the run; exchanges count from there";
 
 // The certificate, if the log has the run's beginning.
 fn begun_text(
@@ -324,17 +362,17 @@ fn sound_text(kind: Option<Kind>, names: &Option<KnownFinding>) -> &'static str
     match names {
         Some(names) => {
             if is_known_complete(names) {
-                "; its certificate is complete"
+                "; no other device is on the line if all follow the rules"
             } else {
-                "; its certificate is incomplete"
+                "; no other device is on the line if all follow the rules, but the run isn't regular"
             }
         }
         None => match kind {
             Some(_) => {
-                "; its certificate is complete but for its known devices, which the log doesn't have"
+                "; no other device is on the line if all follow the rules; the log doesn't have the run's known devices"
             }
             None => {
-                "; its certificate is complete but for what depends on its kind, which the log doesn't have"
+                "; no other device is on the line if all follow the rules; the log doesn't have the run's kind"
             }
         },
     }
@@ -345,8 +383,8 @@ fn gap_text(decided: bool) -> &'static str
     ensures { result.now ≡ gap_text decided }
 {
     if decided {
-        "; its certificate is incomplete"
+        "; others may be on the line"
     } else {
-        "; its certificate is incomplete, or the log ends within the run"
+        "; others may be on the line, or the log ends within the run"
     }
 }

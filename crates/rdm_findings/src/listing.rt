@@ -1,11 +1,14 @@
 //! Which devices are listed, and which others are judged.
-ghost use Rattle.std.specs.Prelude.{◌≡◌, ◌++◌, Some, IfOk, OnOk, option_copied};
+ghost use Rattle.std.specs.Prelude.{◌≡◌, ◌++◌, [], Some, IfOk, OnOk, option_copied};
 ghost use Rattle.rdm_wire.specs.Uid.{has};
 ghost use Rattle.rdm_wire.specs.Devices.{uids_of};
-ghost use Rattle.rdm_findings.specs.Explained.{listed, staying, with_others, culprit_of, unless_in, with_one, gone_of};
+ghost use Rattle.rdm_findings.specs.Explained.{listed, staying, with_others, culprits_of, gone_of};
+ghost use Rattle.rdm_findings.specs.Explained.{with_suspect, unmuted_after, misread_after};
 
-use crate::ending::never_muted;
+use crate::ending::unmuted_at;
 use crate::heard::RunUids;
+use crate::misread::misread;
+use rdm_agent::MOST_APART;
 use rdm_explain::Exchange;
 use rdm_wire::{DeviceSet, Uid};
 use std::alloc::{AllocError, Global};
@@ -62,42 +65,71 @@ pub(crate) fn with_passing(
     Ok(due)
 }
 
-/// The UID that answered alone, and then acknowledged no mute, unless an exchange failed or it is in the list.
-pub(crate) fn culprit_of(
+/// The UIDs that answered alone, and then acknowledged no mute, but none of the list; none if an exchange failed.
+pub(crate) fn culprits_of(
+    alloc: Global,
     failure: Option<usize>,
     uids: &[Uid],
     reported: &DeviceSet,
     exchanges: &[Exchange],
-) -> Option<Uid>
-    ensures { result ≡ culprit_of failure uids.now (uids_of reported.now) exchanges.now }
+) -> Result<Vec<Uid>, AllocError>
+    ensures { IfOk result (λ v. v.items ≡ culprits_of failure uids.now (uids_of reported.now) exchanges.now) }
 {
     match failure {
-        Some(_) => None,
-        None => unless_in(uids, never_muted(reported, exchanges)),
+        Some(_) => Ok(Vec::new(alloc)),
+        None => unmuted(alloc, uids, reported, exchanges),
     }
 }
 
-// A UID, unless it is in the list.
-fn unless_in(uids: &[Uid], uid: Option<Uid>) -> Option<Uid>
-    ensures { result ≡ unless_in uids.now uid }
+fn unmuted(
+    alloc: Global,
+    uids: &[Uid],
+    reported: &DeviceSet,
+    exchanges: &[Exchange],
+) -> Result<Vec<Uid>, AllocError>
+    ensures { IfOk result (λ v. v.items ≡ unmuted_after uids.now (uids_of reported.now) [] exchanges.now) }
 {
-    match uid {
-        Some(uid) => { if has(uids, uid) { None } else { Some(uid) } }
-        None => None,
+    let mut suspects = Vec::new(alloc);
+    for (at, exchange) in exchanges.iter().enumerate() {
+        let uid = unmuted_at(reported, exchange, &exchanges[at + 1..]);
+        add_suspect(&mut suspects, uids, uid)?;
     }
+    Ok(suspects)
 }
 
-/// Adds a UID, if there is one.
-pub(crate) fn add_one(uids: &mut Vec<Uid>, uid: Option<Uid>) -> Result<(), AllocError>
-    ensures { OnOk result (uids.new.items ≡ with_one uids.old.items uid) }
+/// The UIDs that were asked alone, and that other bytes answered than their text, but none of the list.
+pub(crate) fn misread_uids(
+    alloc: Global,
+    uids: &[Uid],
+    exchanges: &[Exchange],
+) -> Result<Vec<Uid>, AllocError>
+    ensures { IfOk result (λ v. v.items ≡ misread_after uids.now [] exchanges.now) }
+{
+    let mut suspects = Vec::new(alloc);
+    for exchange in exchanges {
+        add_suspect(&mut suspects, uids, misread(exchange))?;
+    }
+    Ok(suspects)
+}
+
+// Adds a UID, if there is one, and it is in neither list.
+fn add_suspect(suspects: &mut Vec<Uid>, uids: &[Uid], uid: Option<Uid>) -> Result<(), AllocError>
+    ensures { OnOk result (suspects.new.items ≡ with_suspect uids.now suspects.old.items uid) }
 {
     match uid {
-        Some(uid) => {
-            uids.push(uid)?;
-            Ok(())
-        }
+        Some(uid) => add_new(suspects, uids, uid),
         None => Ok(()),
     }
+}
+
+fn add_new(suspects: &mut Vec<Uid>, uids: &[Uid], uid: Uid) -> Result<(), AllocError>
+    ensures { OnOk result (suspects.new.items ≡ with_suspect uids.now suspects.old.items (Some uid)) }
+{
+    if MOST_APART <= suspects.len() || (has(suspects, uid) || has(uids, uid)) {
+        return Ok(());
+    }
+    suspects.push(uid)?;
+    Ok(())
 }
 
 /// The known UIDs that acknowledged no mute and aren't due; none if the log doesn't have the known ones.

@@ -38,7 +38,7 @@ pub(crate) struct RunFacts {
 
 impl RunFacts {
     ghost use Rattle.std.specs.Prelude.{◌≡◌};
-    ghost use Rattle.rdm_findings.specs.DeviceText.{seen_at, misread_at, first_number, mentioned};
+    ghost use Rattle.rdm_findings.specs.DeviceText.{seen_at, misread_at, suspect_at, first_number, mentioned};
 
     /// The exchange at which a line about bytes names the device, or that such a line counts.
     pub(crate) fn seen_at(&self, misreads: &Misreads, uid: Uid) -> Option<u64>
@@ -56,6 +56,18 @@ impl RunFacts {
         match self.misread_at(misreads, uid) {
             Some(number) => Some(number),
             None => mentioned(&self.stray, uid),
+        }
+    }
+
+    /// The first exchange in which other bytes than its text answered a branch of a UID alone, unless the line about
+    /// bytes that no honest line allows names the UID.
+    pub(crate) fn suspect_at(&self, misreads: &Misreads, uid: Uid) -> Option<u64>
+        ensures { result ≡ suspect_at self.now misreads.now uid }
+    {
+        if mentioned(&self.garbled, uid).is_some() {
+            None
+        } else {
+            self.misread_at(misreads, uid)
         }
     }
 

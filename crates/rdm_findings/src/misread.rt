@@ -2,7 +2,7 @@
 ghost use Rattle.std.specs.Prelude.{◌≡◌, ℕ, []};
 ghost use Rattle.std.specs.List.{cons_option};
 ghost use Rattle.rdm_wire.specs.Uid.{has};
-ghost use Rattle.rdm_findings.specs.Mentions.{is_misread};
+ghost use Rattle.rdm_findings.specs.Mentions.{is_misread, misread_by};
 
 use crate::ending::{has_bytes, is_own};
 use rdm_explain::{Asked, Exchange};
@@ -16,9 +16,10 @@ pub(crate) struct Misreads {
     tree: BTreeMap<u64, usize>,
 }
 
-// The UID that an exchange misread.
-fn misread(exchange: &Exchange) -> Option<Uid>
-    ensures { (u : ℕ) → is_misread u exchange.now ≡ has (cons_option result []) u }
+/// The UID that an exchange misread.
+pub(crate) fn misread(exchange: &Exchange) -> Option<Uid>
+    ensures each { (u : ℕ) → is_misread u exchange.now ≡ has (cons_option result []) u }
+    ensures one { result ≡ misread_by exchange.now.asked exchange.now.heard }
 {
     match exchange.asked {
         Asked::Branch { lo, .. } => {

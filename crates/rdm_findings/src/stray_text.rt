@@ -115,7 +115,7 @@ fn advice_text(decided: bool, sign: &Sign) -> &'static str
     ensures { result.now ≡ advice_text decided sign.now }
 {
     match (sign, decided) {
-        (Sign::Listed(_), true) => ": try it alone, then the others",
+        (Sign::Listed(_), true) => ": take it off the line and discover again",
         (Sign::Listed(_), false) => "; or a device that the log doesn't show sent them",
         (Sign::Other(_), true) => "; a rule was broken: name it by --present, if it is there",
         (Sign::Other(_), false) => ": name it by --present, if it is there",

@@ -23,7 +23,7 @@ pub(crate) fn write_answered(
 }
 
 const ANSWERED: &str =
-    ": bytes came after an unmute, which no device may answer: look for noise, or try each device alone";
+    ": bytes came after an unmute, which no device may answer: look for noise, or split the line";
 
 fn write_answered_at(
     text: &mut Vec<u8>,

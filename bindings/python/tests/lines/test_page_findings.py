@@ -36,18 +36,13 @@ class Findings(TestCase):
                          [("run 7", 0, "sss"), ("discovery", 3, "sss"), ("discovery", 6, "sss")])
         self.assertEqual(list(found.lines()), ["passes", "head", "silent", "head", "bytes", "head", "gap", "late"])
 
-    def test_a_certificate_is_explained(self) -> None:
-        said = "discovery: quick, 18 exchanges, 2 devices; its certificate is complete"
-        explained = "discovery: quick, 18 exchanges, 2 devices; nothing else can be on this line if it is honest"
-        found = page_findings.findings_in(document([{**self.run_with("complete"), "findings": [
-            finding("complete", said), finding("found", "a label; its certificate is complete")]}]))
-        self.assertEqual([each.explained for each in found.all], [explained, "a label; its certificate is complete"])
-        self.assertEqual(next(found.lines()), said)
-        for judgement, end in (("incomplete", "is incomplete"), ("undecided", "is complete but for its known devices")):
+    def test_sentences_are_shown_as_they_are(self) -> None:
+        for judgement, end in (("complete", "no other device is on the line if all follow the rules"),
+                               ("incomplete", "others may be on the line"), ("undecided", "a; b")):
+            said = [f"discovery: quick, 18 exchanges, 2 devices; {end}", f"a label; {end}"]
             found = page_findings.findings_in(document([{**self.run_with(judgement), "findings": [
-                finding(judgement, f"discovery: quick; its certificate {end}")]}]))
-            self.assertEqual(found.all[0].explained,
-                             f"discovery: quick; the proof that nothing else is on this line {end}")
+                finding(judgement, said[0]), finding("found", said[1])]}]))
+            self.assertEqual([[each.text for each in found.all], list(found.lines())], [said, said])
 
     def test_who_is_missing_breaks_no_rule(self) -> None:
         lost = {**finding("broke", "was never heard", uid=SILENT, exchange=2), "found": False}

@@ -17,7 +17,7 @@ from .work import open_work
 MISSING = "missing"
 NOT_FOUND = "wasn't found"
 # What the program advises if it has heard nothing of a device, and what else comes first.
-POWER, LOOK = "check its power and its cable", "; see whether it is on and connected"
+POWER, LOOK = "check its power", "; see whether it is on and connected"
 # What a value that differs is called, by its column.
 KINDS: Mapping[str, str] = {ADDRESS: "moved", LABEL: "relabelled", PERSONALITY: "personality"}
 

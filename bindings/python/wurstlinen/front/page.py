@@ -67,7 +67,7 @@ def head_of(name: str, log: Log, findings: Findings, labels: Mapping[int, str]) 
         "runs": [{"name": run.name, "first": log.places[run.place], "count": len(run.heard)}
                  for run in findings.runs if run.heard],
         "rows": [uid_text(uid) for uid in rows], "labels": [printable(labels.get(uid, "")) for uid in rows],
-        "findings": [{"text": printable(finding.explained), "isHead": finding.is_head, "place": place_of(finding, log),
+        "findings": [{"text": printable(finding.text), "isHead": finding.is_head, "place": place_of(finding, log),
                       "uid": None if finding.uid is None else uid_text(finding.uid)} for finding in findings.all]}
 
 

@@ -43,10 +43,6 @@ BREAKS, BROKE = ("stray", "unmuted", "garbled"), "broke"
 NOTHING_ELSE = "nothing else can be on this line if it is honest"
 COMPLETE = f"{{}} found; {NOTHING_ELSE}."
 ALL_COMPLETE = f"The last of {{}} discoveries: {{}} found; {NOTHING_ELSE}."
-# How the program's sentence about a complete discovery ends, and how that about any goes on.
-CERTIFIED, CERTIFICATE = "its certificate is complete", "; its certificate "
-# What a certificate is.
-PROOF = "; the proof that nothing else is on this line "
 
 
 @dataclass(frozen=True)
@@ -60,14 +56,6 @@ class Finding:
     is_head: bool = False
     # Of a listed device that broke a rule: whether it acknowledged a mute.
     is_found: Optional[bool] = None
-
-    @property
-    def explained(self) -> str:
-        """The sentence for who doesn't know what a certificate is."""
-        if self.judgement not in JUDGED:
-            return self.text
-        is_whole = self.text.endswith(CERTIFIED)
-        return self.text.replace(CERTIFIED, NOTHING_ELSE) if is_whole else self.text.replace(CERTIFICATE, PROOF)
 
 
 @dataclass(frozen=True)

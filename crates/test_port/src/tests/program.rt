@@ -57,12 +57,12 @@ pub const LOG_FILE: &str =
 
 /// What it shows: no device is listed.
 pub const LOG: Due<'static> = (
-    "discovery: 1 exchange, 0 devices; its certificate is incomplete\n\
+    "discovery: 1 exchange, 0 devices; others may be on the line\n\
      exchange 0 should be one of the three unmutes that begin a run\n\
-     0000:00000000 is the first UID that a missed device may have: \
-     five silences in a row of a range with it rule it out\n\
-     exchange 0: 0000:00000000 alone was asked, and bytes came that aren't its text; \
-     a rule was broken, by it, another device or noise: try each device alone on the line\n",
+     not settled: a device from 0000:00000000 up may be missing\n\
+     exchange 0: 0000:00000000 alone was asked, and bytes came that aren't its answer; \
+     a rule was broken, by a device or noise: take 0000:00000000 off the line and discover again; \
+     if it isn't there, split the line\n",
     3,
 );
 

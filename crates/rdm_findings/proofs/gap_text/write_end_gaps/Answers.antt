@@ -3,5 +3,5 @@ use Rattle.rdm_findings.proofs.gap_text.write_end_gaps.Goals as goal
 
 pub returns : goal.returns
 returns c = three_written c.write_device_gap.result c.args.text.now.items c.write_exchange_gap.new.text.items
-    c.write_uid_gap.new.text.items c.write_device_gap.new.text.items _ _ _ c.in_ok-write_exchange_gap.ensures
-    (rw c.uncovered_text-uncovered.ensures at c.in_ok-write_uid_gap.ensures) c.write_device_gap.ensures
+    c.write_uncovered.new.text.items c.write_device_gap.new.text.items _ _ _ c.in_ok-write_exchange_gap.ensures
+    c.in_ok-write_uncovered.ensures c.write_device_gap.ensures

@@ -1,0 +1,6 @@
+use Rattle.rdm_findings.proofs.TextLemmas.{two_written}
+use Rattle.rdm_findings.proofs.garbled_text.write_both.Goals as goal
+
+pub returns : goal.returns
+returns c = two_written c.write_turns.result c.args.text.now.items c.write_read.new.text.items
+    c.write_turns.new.text.items _ _ c.in_ok-write_read.ensures c.write_turns.ensures

@@ -1,0 +1,6 @@
+use Rattle.rdm_reports.proofs.WritingLemmas.{three_written}
+use Rattle.rdm_findings.proofs.head_text.write_several.Goals as goal
+
+pub returns : goal.returns
+returns c = three_written c.write-2.result c.args.text.now.items c.write.new.text.items c.write_number.new.text.items
+    c.write-2.new.text.items _ _ _ c.in_ok-write.ensures c.in_ok-write_number.ensures c.write-2.ensures
