@@ -188,6 +188,10 @@ Heard hear(const RDMReply &reply, const wurst_command &sent) {
     return heard;
 }
 
+bool has_searched(wurst_fault fault) {
+    return fault == WURST_NO_FAULT || fault == WURST_CORRUPT || fault == WURST_TOO_MANY;
+}
+
 std::string text_of(const wurst_end &end) {
     static const char *const faults[] = {
         "no fault", " alone answered its branch, but isn't a new device", "more than 1,024 devices answered",

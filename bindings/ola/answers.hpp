@@ -12,8 +12,8 @@ namespace stand_in {
 // Why the line failed, where it is said in several places.
 constexpr const char *NOT_SENT = "the adapter couldn't send a frame";
 constexpr const char *NO_MEMORY = "out of memory";
-constexpr const char *OUT_OF_STEP = "the adapter's answers may be those of earlier frames";
-// Compared by its address.
+// These two are compared by their addresses.
+inline constexpr char OUT_OF_STEP[] = "the adapter's answers may be those of earlier frames";
 inline constexpr char LATE[] = "the adapter didn't answer for a second";
 
 // What the core gets after a frame: the bytes that came (none are silence), or that the line failed.
@@ -37,6 +37,10 @@ std::unique_ptr<ola::rdm::RDMRequest> repeated(const ola::rdm::RDMRequest &reque
 // What a reply means for the frame that was sent. `sent` is the frame as the core wrote it. The layer below has sent
 // its own source UID and transaction number instead, and has compared them only if its status is RDM_COMPLETED_OK.
 Heard hear(const ola::rdm::RDMReply &reply, const wurst_command &sent);
+
+// OLA's callback has no argument for a fault. Beside a device that can't be muted, or with one too many, OLA gets what
+// the run has found. After any other fault most may be missing, and OLA gets what the last run without a fault found.
+bool has_searched(wurst_fault fault);
 
 // Why a discovery ended early.
 std::string text_of(const wurst_end &end);

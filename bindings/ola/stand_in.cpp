@@ -12,6 +12,8 @@ constexpr wurst::Uid SOURCE{0x7ff0, 0x00000001};
 constexpr unsigned int SILENT_BRANCHES = 5;
 // How often a GET is made again whose answer may lack its first parts.
 constexpr unsigned int MOST_REPEATS = 5;
+// How often a discovery is made again in which an answer was that of an earlier frame.
+constexpr unsigned int MOST_MORE_RUNS = 16;
 constexpr const char *STOPPED = "the adapter was stopped";
 constexpr const char *DISCOVERY_BY_BRIDGE[] = {
     "the proved discovery, by the adapter's discovery calls and requests",
@@ -111,7 +113,7 @@ void StandIn::discover(wurst_kind kind, RDMDiscoveryCallback *callback) {
     const bool is_over = is_aborted_ || has_ended_;
     DiscoveryList one;
     try {
-        one.push_back({kind, {asked}, false});
+        one.push_back({kind, {asked}, 0});
     } catch (const std::bad_alloc &) {
         keep_thrown([&] { callback != nullptr ? callback->Run(is_over ? UIDSet() : *given_) : void(); });
         return pass_on();
@@ -262,7 +264,7 @@ void StandIn::continue_run(const wurst::Frame &frame, bool is_first) {
     run_log_.sent(frame);
     if (is_aborted_) {
         fail(STOPPED);
-    } else if (!is_first || !is_in_doubt()) {
+    } else if (!is_first || std::exchange(is_behind_, false) || !is_in_doubt()) {
         send_down(frame, nullptr);
     } else {
         run_.held_frame = frame;
@@ -288,6 +290,7 @@ void StandIn::deliver(const Heard &heard) {
     const bool is_run = sent().kind != WURST_REQUEST;
     const char *const failure = is_run ? failure_of(heard) : heard.failure;
     if (failure != nullptr) {
+        run_.is_behind = failure == OUT_OF_STEP;
         fail(failure);
     } else if (is_run && is_emptied_in_doubt(heard)) {
         fail(OUT_OF_STEP);
@@ -444,12 +447,6 @@ void StandIn::answer(const wurst::DiscoveryView &done) {
     answer_oldest(*devices);
 }
 
-// OLA's callback has no argument for a fault. Beside a device that can't be muted, or with one too many, OLA gets what
-// the run has found. After any other fault most may be missing, and OLA gets what the last run without a fault found.
-static bool has_searched(wurst_fault fault) {
-    return fault == WURST_NO_FAULT || fault == WURST_CORRUPT || fault == WURST_TOO_MANY;
-}
-
 StandIn::Devices StandIn::devices_to_give(const wurst::DiscoveryView &done) {
     const bool is_good = has_searched(done.fault()) || core_.devices_run() == 0;
     try {
@@ -476,10 +473,13 @@ void StandIn::tell_fault(const wurst::DiscoveryView &done, const UIDSet &devices
 }
 
 // A daemon that stood still hears a good answer as late as that of an adapter that hangs, and nobody repeats its first
-// discovery. So if nothing else was wrong, the same discovery is asked for once more. False: it isn't.
+// discovery. So if nothing else was wrong, the same discovery is asked for once more. After an answer to an earlier
+// frame, it is asked for several times: a run begins with an unmute, during which EnttecPortImpl drops responses that
+// were due. False: it isn't.
 bool StandIn::repeat(const wurst::DiscoveryView &done) {
-    const bool is_late = done.fault() == WURST_LINE_FAILED && failure_ == LATE && !is_aborted_ && !has_ended_;
-    if (!is_late || discoveries_.front().is_repeated) {
+    const unsigned int most = run_.is_behind ? MOST_MORE_RUNS : failure_ == LATE ? 1 : 0;
+    const unsigned int repeats = discoveries_.front().repeats;
+    if (done.fault() != WURST_LINE_FAILED || is_aborted_ || has_ended_ || repeats >= most) {
         return false;
     }
     DiscoveryList oldest;
@@ -488,10 +488,11 @@ bool StandIn::repeat(const wurst::DiscoveryView &done) {
         discoveries_.splice(discoveries_.begin(), oldest);
         return false;
     }
-    discoveries_.back().is_repeated = true;
+    discoveries_.back().repeats++;
+    is_behind_ = run_.is_behind;
     record(controller_, "result", "repeated discovery", "run", done.end.run, "found", done.devices);
-    if (std::exchange(run_told_, done.end.run) != done.end.run) {
-        tell(name(), Level::Warn, "discovery is repeated: ", LATE);
+    if (std::exchange(run_told_, done.end.run) != done.end.run && repeats == 0) {
+        tell(name(), Level::Warn, "discovery is repeated: ", is_behind_ ? "an answer was an earlier frame's" : LATE);
     }
     return true;
 }

@@ -61,8 +61,8 @@ private:
     struct Discoveries {
         wurst_kind kind = WURST_INCREMENTAL;
         std::list<Asked> asked;
-        // Its first run failed by a late answer alone.
-        bool is_repeated = false;
+        // How many runs have failed by answers that were late or those of earlier frames.
+        unsigned int repeats = 0;
     };
 
     // Lists, whose elements move from one to the other without memory.
@@ -116,6 +116,8 @@ private:
         Clock::time_point began{};
         unsigned int silent_branches = 0;
         bool is_silent = true;
+        // It failed by an answer that was that of an earlier frame.
+        bool is_behind = false;
         std::optional<wurst::Frame> held_frame;
         // What waits until the queue is resumed.
         std::function<void()> held_step;
@@ -155,6 +157,8 @@ private:
     bool is_under_way_ = false;
     bool is_used_ = false;
     bool has_discovered_ = false;
+    // The next run begins without a check of the line.
+    bool is_behind_ = false;
     bool is_paused_ = false;
     bool is_within_ = false;
     bool is_aborted_ = false;

@@ -14,6 +14,9 @@ using namespace std::chrono_literals;
 
 constexpr auto LATE_ENOUGH = 950ms;
 
+// A discovery is repeated 16 times at most while answers are those of earlier frames.
+constexpr unsigned int MOST_RUNS = 17;
+
 // A queue whose first discovery has found three fixtures.
 template <typename L> struct Known {
     L lower;
@@ -181,7 +184,7 @@ void test_late_answers() {
     for (const auto status : {RDM_TRANSACTION_MISMATCH, RDM_SRC_UID_MISMATCH, RDM_DEST_UID_MISMATCH}) {
         Known<TargetLower> known;
         known.queue->RunFullDiscovery(known.client.discovery());
-        unsigned int late = 1;
+        unsigned int late = MOST_RUNS;
         known.lower.answers = [&](const RDMRequest &request) -> Lower::Reply {
             const bool is_late = request.ParamId() == PID_DISC_MUTE && late > 0;
             late -= is_late ? 1 : 0;
@@ -197,11 +200,21 @@ void test_late_answers() {
         CHECK(known.has_found(known.good, 3) && known.lower.sent[sent]->ParamId() == PID_DISC_MUTE);
         CHECK(known.lower.wire.unmutes == before + 3);
         // If that is late too, nothing is sent.
-        late = 2;
+        late = MOST_RUNS + 1;
         const auto unmutes = known.lower.wire.unmutes;
         known.queue->RunFullDiscovery(known.client.discovery());
         known.queue->RunFullDiscovery(known.client.discovery());
-        CHECK(known.has_found(known.good, 5) && known.lower.wire.unmutes == unmutes + 3);
+        CHECK(known.has_found(known.good, 5) && known.lower.wire.unmutes == unmutes + 3 * MOST_RUNS);
+        // After fewer, what is there now is found at once.
+        known.queue->RunFullDiscovery(known.client.discovery());
+        known.lower.wire.fixtures.pop_back();
+        for (const unsigned int fewer : {1U, MOST_RUNS - 1}) {
+            forget_messages();
+            late = fewer;
+            known.queue->RunFullDiscovery(known.client.discovery());
+            CHECK(known.client.sets.back() == uids_of(known.lower.wire) && messages_with("failed: ") == 0);
+            CHECK(messages_with("discovery is repeated: an answer was an earlier frame's") == 1);
+        }
     }
 }
 
@@ -225,11 +238,12 @@ void test_late_answers_to_clients() {
 void test_response_after_branch() {
     Known<DmxterWidgetImpl> known;
     known.queue->RunFullDiscovery(known.client.discovery());
-    bool is_late = true;
+    unsigned int late = MOST_RUNS;
     known.lower.answers = [&](const RDMRequest &request) -> Lower::Reply {
-        if (request.ParamId() != PID_DISC_UNIQUE_BRANCH || !std::exchange(is_late, false)) {
+        if (request.ParamId() != PID_DISC_UNIQUE_BRANCH || late == 0) {
             return nullptr;
         }
+        late--;
         const RDMGetResponse response(DEVICE, ADAPTER, 3, RDM_ACK, 0, 0, PID_DEVICE_LABEL, nullptr, 0);
         return Lower::Reply(RDMReply::DUBReply(frame_of(response)));
     };
@@ -272,6 +286,9 @@ public:
     void answer_oldest() {
         const Answer oldest = std::exchange(unread_.front(), {});
         unread_.pop_front();
+        if (drops_responses && oldest.response && unmuted_ != nullptr) {
+            return;
+        }
         if (branched_ != nullptr) {
             std::exchange(branched_, nullptr)->Run(oldest.bytes.empty() ? nullptr : oldest.bytes.data(),
                                                    static_cast<unsigned int>(oldest.bytes.size()));
@@ -296,6 +313,8 @@ public:
             end_request(std::make_unique<RDMReply>(RDM_FAILED_TO_SEND));
         }
     }
+    // A response doesn't end an unmute, as in OLA 0.10.9.
+    bool drops_responses = false;
     bool is_waiting() const { return branched_ != nullptr || unmuted_ != nullptr || replied != nullptr; }
 
     // The next response has a wrong length. The adapter reports it, and then that nothing else came (label 12), which
@@ -404,6 +423,29 @@ void test_damaged_response() {
             lower.answer_all();
             const bool has_response = client.got.size() == value && client.got.back().response;
             CHECK(has_response && data_of(*client.got.back().response) == Data{value});
+        }
+    }
+}
+
+// If OLA's class drops what comes during an unmute, the repeated run is exact, the first one too.
+void test_dropped_response() {
+    for (const unsigned int place : {0U, 4U, 8U, 12U}) {
+        Shifted lower;
+        lower.drops_responses = true;
+        lower.wire.fixtures = fixtures(3);
+        Client client;
+        Queue queue(&lower, 20);
+        for (std::size_t runs = 1; runs <= 2; runs++) {
+            forget_messages();
+            queue.RunFullDiscovery(client.discovery());
+            for (unsigned int i = 0; i < place; i++) {
+                lower.answer_oldest();
+            }
+            lower.damage_next();
+            lower.answer_all();
+            CHECK(client.sets.size() == runs && client.sets.back() == uids_of(lower.wire));
+            CHECK(messages_with("discovery is repeated: ") == 1 && messages_with("discovery failed: ") == 0);
+            lower.wire.fixtures.pop_back();
         }
     }
 }
@@ -546,6 +588,7 @@ void test_lines() {
     test_failing_requests<EnttecPortImpl>();
     test_shifted_answers();
     test_damaged_response();
+    test_dropped_response();
     test_shifted_silence();
     test_shifted_first_run();
     test_repeated_answers();
