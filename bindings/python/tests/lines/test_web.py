@@ -100,7 +100,7 @@ class Fixtures(BrowserTestCase):
             seen.click(f"{row(RIGHT)} .address")
             seen.type("100")
             seen.key("Enter")
-            seen.button("Set 101, the next free address")
+            seen.button("Set Front right to 101, the next free address")
             events.until(lambda parts: parts.get(f"fixture/{RIGHT}", {}).get("address") == 101)
             seen.until(f"document.querySelector(\"{row(RIGHT)} .address\")?.value === '101'")
             # Who goes elsewhere leaves the question.
@@ -124,7 +124,7 @@ class Fixtures(BrowserTestCase):
             seen.key("Enter")
             seen.until("document.querySelector('.message')")
             self.assertEqual(seen.page.value("window.first"), [
-                ["Set 101, the next free address", True], ["Do it anyway", True], ["Cancel", False]])
+                ["Set Front right to 101, the next free address", True], ["Do it anyway", True], ["Cancel", False]])
             if size == PHONE:
                 bottom, top = seen.page.value("[document.querySelector('.message').getBoundingClientRect().bottom, "
                                               "document.querySelector('.main').getBoundingClientRect().top]")
@@ -291,7 +291,7 @@ class Fixtures(BrowserTestCase):
             self.assertEqual(bad, ["missing", "overlap", "overlap"])
             # The table says so, too, and leads there.
             seen.button("Fixtures")
-            seen.button("rig.csv: 4 differences, 2 overlaps")
+            seen.button("rig.csv: 1 missing, 3 differences, 2 overlaps")
             self.assertEqual(seen.texts("#chooser"), [])
             seen.button("Apply rig.csv …")
             seen.until("document.querySelector('.message')")

@@ -161,7 +161,7 @@ class Always(BrowserTestCase):
             seen.click(f"{row(LEFT)} .label")
             seen.type("Gone")
             seen.key("Enter")
-            seen.until("document.querySelector('.message')?.textContent.includes('no answer')")
+            seen.until(f"document.querySelector('.message')?.textContent.includes('Front left ({LEFT}): no answer')")
             seen.until(f"document.querySelector(\"{row(LEFT)} .note\")?.textContent.includes('no answer')")
             self.assertEqual(seen.value(f"{row(LEFT)} .label"), "Front left")
             rig.is_plugged_in = False

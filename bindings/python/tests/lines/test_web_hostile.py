@@ -149,7 +149,7 @@ class Attacks(LongTestCase):
             self.assertLess(self.works(web), 5.0 * busy())
             # A page that is open isn't thrown out.
             events.until(lambda parts: parts.get(f"fixture/{LEFT}", {}).get("identifies"))
-            self.assertLessEqual(web.door.connections, door.MOST_CONNECTIONS)
+            self.assertLessEqual(len(web.door.connections), door.MOST_CONNECTIONS)
 
     def test_one_that_is_slow_with_its_request(self) -> None:
         with five() as (web, _):

@@ -52,7 +52,7 @@ export const busyAs = (name, ...names) => ({ class: classes(...names, busy.has(n
 // The answer to a call; nothing if it is a fault, which is said.
 export async function asked(name, keys) {
     const answer = await call(name, keys);
-    return answer.error ? void say(answer.error, { isBad: true }) : answer;
+    return answer.error ? void say(fixtures.named(answer.error), { isBad: true }) : answer;
 }
 
 // Does something, and says how it ended. If slots would overlap, it is done only if that is wanted.
@@ -60,11 +60,12 @@ export async function act(name, keys, done = "") {
     const answer = await asked(name, keys);
     const { made = 0, failures = [], problems = [] } = answer ?? {};
     if (failures.length) {
-        say(failures.join("\n"), { isBad: true });
+        say(fixtures.named(failures.join("\n")), { isBad: true });
     } else if (problems.length && !made) {
-        const free = keys.column === "address" ? fixtures.freeFrom(fixtureOf(keys.uid), Number(keys.value)) : 0;
-        const instead = { text: `Set ${free}, the next free address`, act: () => act(name, { ...keys,
-            value: String(free) }, `Address ${free} was set, and read back.`) };
+        const found = fixtureOf(keys.uid), whose = fixtures.nameOf(found);
+        const free = keys.column === "address" ? fixtures.freeFrom(found, Number(keys.value)) : 0;
+        const instead = { text: `Set ${whose} to ${free}, the next free address`, act: () => act(name, { ...keys,
+            value: String(free) }, `${whose}: address ${free} was set, and read back.`) };
         const again = { text: "Do it anyway", act: () => act(name, { ...keys, force: true }, done) };
         say(`Not done: ${problems.join("; ").replaceAll("; after this,", ";")}.`,
             { isBad: true, actions: [...(free ? [instead] : []), again] });
@@ -74,33 +75,26 @@ export async function act(name, keys, done = "") {
     return Boolean(answer) && !failures.length;
 }
 
-function statusText() {
-    const now = parts.get("line");
-    if (token === "") {
-        return ["This link has no token: ask whoever started the page for the whole link.", true];
-    }
-    if (lost || !now) {
-        return [`Not connected: ${lost || "no line so far"}.${parts.size ? " What you see is old." : ""}`, true];
-    }
-    if (!now.there) {
-        return [now.served ? `${now.name}: adapter unplugged, waiting for it; what you see is old`
-            : `No line: ${now.reason}`, true];
-    }
-    const mode = parts.get("role") === "looks" ? " · view only" : "";
-    return [`${now.name}${now.paused ? " · paused: no RDM request is sent" : mode}`, now.paused];
+function statusText(now) {
+    const mode = now?.paused ? "paused: no RDM request is sent" : parts.get("role") === "looks" && "view only";
+    return token === "" ? "This link has no token: ask whoever started the page for the whole link."
+        : lost || !now ? `Not connected: ${lost || "no line so far"}.${parts.size ? " What you see is old." : ""}`
+            : now.there ? now.name + (mode ? ` · ${mode}` : "")
+                : now.served ? `${now.name}: adapter unplugged, waiting for it; what you see is old`
+                    : `No line: ${now.reason}`;
 }
 
 // Takes the last change back, where that is said.
 export const undo = ({ text, back }) => act("undo", { text }, `Undone: ${back}.`);
 
 function header(name) {
-    const [text, isBad] = statusText(), last = parts.get("undo");
+    const last = parts.get("undo"), now = parts.get("line"), isBad = !token || lost || !now?.there || now.paused;
     // Which fixtures show themselves, and how all of them stop.
     const all = partsOf("fixture/").filter((found) => found.identifies && !found.missing);
     const stop = all.length > 0 && button(`${all.length} ${all.length > 1 ? "identify" : "identifies"} · Stop`, () =>
         all.forEach(({ uid }) => act("identify", { uid, on: false })), { id: "stop", disabled: !maySend() });
     return make("header", {}, make("h1", {}, "Wurstlinen"),
-        make("p", { id: "status", role: "status", class: classes(isBad && "bad") }, text),
+        make("p", { id: "status", role: "status", class: classes(isBad && "bad") }, statusText(now)),
         stop, button(last ? `Undo (${last.count})` : "Undo", () => say(`Undo: ${last.back}?`, { actions: [{ text:
             "Undo", act: () => undo(last) }] }), { id: "undo", disabled: !maySend() || !last }),
         make("nav", { "aria-label": "Views" }, Object.entries(TITLES).map(([each, title]) => make("a",

@@ -1,18 +1,20 @@
 // Discovery: how far it is, what it found, who broke the rules, what is missing and why, and its picture.
 import { act, addressOf } from "/app.js";
 import { button, classes, make, plural } from "/dom.js";
-import { advice, linked, nameOf } from "/fixtures.js";
+import { advice, linked, nameOf, named } from "/fixtures.js";
 import { fixtureOf, maySend, parts, partsOf } from "/server.js";
 
 function resultText(last) {
     const found = `${plural(last.found, "fixture")} found with ${plural(last.frames, "frame")}`;
     const bad = (last.devices ?? []).filter((each) => each.is_broken).map(({ uid }) => nameOf(fixtureOf(uid)) || uid);
     const first = bad.length ? `Take ${bad.join(", ")} off the line, and discover again. ` : "";
-    return last.fault ? `${first}The discovery is incomplete: ${last.fault}. ${found}.`
-        : last.found ? `${found}; if all on the line keep the rules, nothing else is on it.`
-            : `${found}: check the adapter and the first cable.`;
+    return last.fault ? `${first}The discovery is incomplete: ${named(last.fault)}. ${found}.`
+        : last.is_broken ? `${first}${found}; a rule was broken, so others may be missing.`
+            : last.found ? `${found}; if all on the line keep the rules, nothing else is on it.`
+                : `${found}: check the adapter and the first cable.`;
 }
 
+const isBad = (last) => Boolean(last?.fault || last?.is_broken);
 const labelOf = (uid) => parts.get("file")?.differences.find((each) => each.uid === uid)?.label;
 // Those of the file that is loaded, too.
 const neverFound = (last) => (last?.devices ?? []).filter((each) => !each.is_broken && !fixtureOf(each.uid));
@@ -20,7 +22,7 @@ const neverFound = (last) => (last?.devices ?? []).filter((each) => !each.is_bro
 // What other views say of a discovery that is incomplete.
 export function alarm() {
     const last = parts.get("discovery"), absent = neverFound(last).map(({ uid }) => labelOf(uid) || uid).join(", ");
-    return Boolean(last?.fault) && make("p", { class: "result bad" }, `${resultText(last)} `,
+    return isBad(last) && make("p", { class: "result bad" }, `${resultText(last)} `,
         absent && `Missing: ${absent}. `, make("a", { href: addressOf("discovery") }, "Discovery"), " says more.");
 }
 
@@ -51,7 +53,7 @@ export function view() {
     return [make("div", { class: "tools" }, begin,
         make("p", { class: "sending" }, "Once it has begun, nothing stops it: it ends by itself.")),
         make("p", { role: "status" }, progressText(parts.get("progress"), last)),
-        make("p", { class: classes("result", last?.fault && "bad") }, last && !last.runs && resultText(last)),
+        make("p", { class: classes("result", isBad(last) && "bad") }, last && !last.runs && resultText(last)),
         section("Fixtures that did something wrong", said.filter((each) => each.is_broken)),
         section("Missing", missing), section("Also seen", (last?.others ?? []).map((text) => ({ text }))),
         address && make("div", { key: address }, make("p", {}, make("a", { href: address, target: "_blank",

@@ -123,44 +123,39 @@ class Door(socketserver.ThreadingTCPServer):
         self.admits: Callable[[Handler], bool]
         self._changing = threading.Lock()
         # The connections, the oldest first, and since when their request is awaited; if it has come, for ever later.
-        self._since: Dict[socket.socket, float] = {}
+        self.connections: Dict[socket.socket, float] = {}
         self.streams = threading.BoundedSemaphore(MOST_STREAMS)
         super().__init__(address, Handler)
-
-    @property
-    def connections(self) -> int:
-        """How many there are."""
-        return len(self._since)
 
     def note_request(self, connection: socket.socket) -> None:
         """The request of a connection has come."""
         with self._changing:
-            if connection in self._since:
-                self._since[connection] = math.inf
+            if connection in self.connections:
+                self.connections[connection] = math.inf
 
     def _end_idle(self, since: float, most: int) -> None:
         """Ends connections without a request, which ends their threads: the oldest since then, so many at most."""
         with self._changing:
-            for connection in [each for each, began in self._since.items() if began <= since][:most]:
-                del self._since[connection]
+            for connection in [each for each, began in self.connections.items() if began <= since][:most]:
+                del self.connections[connection]
                 with contextlib.suppress(OSError):
                     connection.shutdown(socket.SHUT_RDWR)
 
     def process_request(self, request: Any, client_address: Any) -> None:
         """Has a connection answered, in place of the oldest idle one if there are too many."""
-        if self.connections >= MOST_CONNECTIONS:
+        if len(self.connections) >= MOST_CONNECTIONS:
             self._end_idle(time.monotonic(), 1)
-        if self.connections >= MOST_CONNECTIONS:
+        if len(self.connections) >= MOST_CONNECTIONS:
             self.shutdown_request(request)
             return
         with self._changing:
-            self._since[request] = time.monotonic()
+            self.connections[request] = time.monotonic()
         super().process_request(request, client_address)
 
     def shutdown_request(self, request: Any) -> None:
         """Ends a connection."""
         with self._changing:
-            self._since.pop(request, None)
+            self.connections.pop(request, None)
         super().shutdown_request(request)
 
     def handle_error(self, request: Any, client_address: Any) -> None:

@@ -14,11 +14,10 @@ async function save() {
 }
 
 async function load({ target }) {
-    const file = target.files[0];
-    if (file) {
+    for (const file of target.files) {
         await act("load", { name: file.name, text: await file.text() });
-        target.value = "";
     }
+    target.value = "";
 }
 
 async function look() {

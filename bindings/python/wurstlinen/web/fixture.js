@@ -65,6 +65,7 @@ export function view(uid) {
         .map(([text, by]) => button(text, () => go(uid, by), { class: "main" }));
     const short = ([title, text]) => `${title.replace(/^\d+ /, "")} ${text.split(" (")[0]}`.trim();
     const measured = (sections.sensors ?? []).map(short).join(" · ");
+    const isOld = measured && (found.missing || found.is_gone) ? "Before it was missing: " : "";
     return [make("article", {}, back, make("h2", { class: "name" }, nameOf(found)),
         make("p", { class: "whole" }, about.join(" · ")),
         make("p", { class: classes("notes", notes.length && "bad") }, [...notes, ...remarksOf(found)].join("; ")),
@@ -73,7 +74,7 @@ export function view(uid) {
         make("div", { class: "place" }, field("Address", "address"), nudge(found, "−", -1, "lower"),
             nudge(found, "+", 1, "higher")),
         field("Personality", "personality"), changeOf(found), make("p", { class: "sending" }, mayUse() && SENDING),
-        make("p", { class: "sensors" }, measured || (parts.get("role") !== "looks" || sections.identity ? ""
+        make("p", { class: "sensors" }, isOld + measured || (parts.get("role") !== "looks" || sections.identity ? ""
             : "Sensors and all else are shown once a page that isn't view only opens it.")),
         mayUse() && button(isReading ? "Reading …" : "Read all again", () => readAll(uid),
             { disabled: isReading || !maySend() }),

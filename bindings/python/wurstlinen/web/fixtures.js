@@ -16,8 +16,12 @@ let walked = null;
 
 export const nameOf = (found) => found?.label || (found?.model && found.address ? `${found.model} at ${found.address}`
     : found?.model || found?.uid || "");
-// The same, with the word for one whose slots count though it isn't there.
-export const placedNameOf = (found) => nameOf(found) + (found?.missing ? " (missing)" : "");
+// The same with the UID of one without a label, and the word for one whose slots count though it isn't there.
+export const placedNameOf = (found) => nameOf(found) + (found?.model && !found.label ? ` (${found.uid})` : "")
+    + (found?.missing ? " (missing)" : "");
+// A text of the page's program, in which fixtures have their names, too.
+export const named = (text) => text.replace(/[0-9a-f]{4}:[0-9a-f]{8}/g, (uid) => linked(uid).map((each) =>
+    each.children ?? each).join(""));
 // What is to be done comes first, and then why.
 export const advice = (text) => text.replace(/^(.*); (check .*)$/, "$2 ($1)");
 
@@ -43,8 +47,9 @@ export function freeFrom({ root, first, last }, wanted) {
 // What is wrong with a fixture, and what else is remarkable.
 export function notesOf({ uid, missing, notes }) {
     const problems = (parts.get("problems") ?? []).filter((each) => each.uid === uid || each.other === uid);
-    return [...(missing ? [`missing: ${advice(missing)}`] : []), ...notes,
-        ...problems.map((each) => problemOf(each, uid))];
+    const waits = parts.get("line")?.paused && [...busy].some((name) => name.startsWith(uid));
+    return [waits && "waits for the end of the pause", missing && `missing: ${advice(missing)}`, ...notes,
+        ...problems.map((each) => problemOf(each, uid))].filter(Boolean);
 }
 
 export const remarksOf = ({ uid, root, is_slow: isSlow }) => [root === uid ? "" : `part of ${nameOf(fixtureOf(root))
@@ -151,10 +156,12 @@ function rowOf(found) {
 const choose = (wanted) => redraw(Object.assign(chosen, wanted));
 const sortBy = (column) => choose({ column, isDown: chosen.column === column && !chosen.isDown });
 
-// How many differences from a file there are, and overlaps that it doesn't have.
+// How many fixtures of a file are missing, how many other differences there are, and overlaps that it doesn't have.
 export function differencesOf({ differences: all }) {
-    const overlaps = all.filter(({ kind }) => kind === "overlap").length;
-    return plural(all.length - overlaps, "difference") + (overlaps ? `, ${plural(overlaps, "overlap")}` : "");
+    const count = (wanted) => all.filter(({ kind }) => kind === wanted).length;
+    const missing = count("missing"), overlaps = count("overlap");
+    return [missing && `${missing} missing`, plural(all.length - missing - overlaps, "difference"),
+        overlaps && plural(overlaps, "overlap")].filter(Boolean).join(", ");
 }
 
 function tools(all, shown) {

@@ -5,14 +5,16 @@ import { alarm } from "/discovery.js";
 import { nameOf, placedNameOf, problemOf, slotsOf } from "/fixtures.js";
 import { fixtureOf, maySend, parts, partsOf } from "/server.js";
 
-const LAST = 512;
+const LAST = 512, MOST_PROBLEMS = 5;
 const HELP = isTouched ? "Tap a fixture to select it, and then drag it."
     : "Drag a fixture, or select it and use the arrow keys; Enter moves it, Escape leaves it where it was.";
 const isNarrow = matchMedia("(max-width: 700px)");
 const width = () => (isNarrow.matches ? 16 : 32);
 const rowOf = (slot) => Math.ceil(slot / width());
 const areaOf = (from, to) => `grid-area: ${rowOf(from)} / ${(from - 1) % width() + 1} / auto / span ${to - from + 1};`;
-const mayMove = (uid) => maySend() && !fixtureOf(uid)?.missing;
+const nameWithSlots = (found) => `${placedNameOf(found)}, ${slotsOf(found)}`;
+const mayMove = (uid) => maySend() && fixtureOf(uid) && !fixtureOf(uid).missing;
+const selected = () => document.activeElement?.dataset.uid;
 // The fixture that is being moved, and where it is now.
 let moving = null;
 
@@ -51,8 +53,9 @@ function hint(fixtures) {
     const before = fixtureOf(moving?.uid);
     const others = fixtures.filter((each) => before && each.root !== before.root && each.first <= moving.last
         && each.last >= moving.first).map(placedNameOf).join(", ");
-    return before ? `${nameOf(before)}: ${slotsOf(before)} → ${slotsOf(moving)}, `
-        + (others ? `overlaps ${others}` : "free") : maySend() ? HELP : "";
+    const help = isTouched && mayMove(selected()) ? `${nameWithSlots(fixtureOf(selected()))}: drag it.` : HELP;
+    const end = others ? `overlaps ${others}` : "free";
+    return before ? `${nameOf(before)}: ${slotsOf(before)} → ${slotsOf(moving)}, ${end}` : maySend() ? help : "";
 }
 
 function keyed(event) {
@@ -74,7 +77,7 @@ const slotAt = ({ clientX, clientY }) => Number(document.elementsFromPoint(clien
 function dragged(event) {
     const { uid } = event.target.dataset;
     // On a phone a finger scrolls, unless the fixture was selected before.
-    if (!uid || !mayMove(uid) || (event.pointerType === "touch" && document.activeElement?.dataset.uid !== uid)) {
+    if (!uid || !mayMove(uid) || (event.pointerType === "touch" && selected() !== uid)) {
         return;
     }
     const within = slotAt(event) - fixtureOf(uid).first, over = new AbortController(), { signal } = over;
@@ -92,11 +95,11 @@ function piecesOf(found, owners) {
         const to = Math.min(end, rowOf(from) * width()), isFirst = from === first;
         const isCrowded = owners.slice(from - 1, to).some((count) => count > 1);
         const attributes = { key: `${uid} ${pieces.length}`, "data-uid": uid,
-            title: `${placedNameOf(found)}, ${slotsOf(found)}`,
+            title: nameWithSlots(found),
             class: classes("piece", missing && "away", isCrowded && "crowded", moving?.uid === uid && "moving"),
             style: `${areaOf(from, to)} --lane: ${lane}` };
-        pieces.push(isFirst ? make("button", { ...attributes, type: "button", onblur: redraw, "aria-label":
-            `${placedNameOf(found)}, slots ${first} to ${last}${isCrowded ? ", overlaps another" : ""}` },
+        pieces.push(isFirst ? make("button", { ...attributes, type: "button", onblur: redraw, onfocus: redraw,
+            "aria-label": `${placedNameOf(found)}, slots ${first} to ${last}${isCrowded ? ", overlaps another" : ""}` },
         placedNameOf(found)) : make("div", { ...attributes, "aria-hidden": "true" }, `… ${placedNameOf(found)}`));
     }
     return pieces;
@@ -105,11 +108,13 @@ function piecesOf(found, owners) {
 export function view() {
     const fixtures = placed(), owners = ownersOf(fixtures);
     const crowded = owners.filter((each) => each > 1).length, free = owners.filter((each) => !each).length;
-    const problems = (parts.get("problems") ?? []).map((each) => [fixtureOf(each.uid), problemOf(each, each.uid)]);
+    const problems = parts.get("problems") ?? [], more = problems.length - MOST_PROBLEMS;
     const opened = ({ target: { dataset: { uid } } }) => uid && (location.hash = addressOf("fixture", uid));
     return [alarm(), make("p", {}, `${free} slots are free${crowded ? `, ${crowded} shared` : ""}.`),
-        make("ul", { class: "problems" }, problems.map(([found, text]) =>
-            make("li", {}, `${found ? `${placedNameOf(found)} ${slotsOf(found)}` : ""} ${text}`))),
+        make("ul", { class: "problems" }, problems.slice(0, MOST_PROBLEMS).map((each) => make("li",
+            { class: classes([each.uid, each.other].includes(moving?.uid) && "moot") },
+            `${nameWithSlots(fixtureOf(each.uid) ?? {})}, ${problemOf(each, each.uid)}`)),
+        more > 0 && make("li", {}, `and ${more} more`)),
         make("div", { class: "universe", role: "group", "aria-label": "512 slots", style: `--columns: ${width()}`,
             onkeydown: keyed, onpointerdown: dragged, ondblclick: opened },
         owners.map((count, at) => make("i", { class: classes(count > 1 && "crowded"), style: areaOf(at + 1, at + 1) },

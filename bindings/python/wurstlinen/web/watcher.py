@@ -3,6 +3,7 @@ from __future__ import annotations
 
 import contextlib
 import io
+import itertools
 import secrets
 import threading
 import time
@@ -20,7 +21,7 @@ from ..front.work import Work
 from ..line import LineFailed
 from ..lines.numbers import CommandClass, ResponseType
 from ..lines.packets import decode_packet, is_answer
-from ..lines.uids import uid_text
+from ..lines.uids import is_broadcast, uid_text
 from ..parameters import STANDARD
 from ..shared.client import SharedClient
 from ..shared.words import FRAMES, Keys
@@ -129,14 +130,15 @@ def findings_of(log: Sequence[str], expected: Sequence[Uid], found: Set[Uid]
             raise NoFindings(said.fault)
     except (OSError, NoFindings) as fault:
         return None, {}, {"others": [f"why a fixture is missing can't be said: {fault}"]}
-    about = [(None if each.uid is None or each.judgement in STRAY else Uid.from_number(each.uid), each)
-             for each in said.all if not each.is_head]
+    about = [(None if each.uid is None or each.judgement in STRAY or is_broadcast(each.uid)
+              else Uid.from_number(each.uid), each) for each in said.all if not each.is_head]
     reasons = {uid: each.text.removeprefix(f"{uid} ") for uid, each in about if uid is not None}
     good = {uid for uid, each in about if each.judgement == GOOD}
     broken = {uid for uid, each in about if each.judgement == GARBLED or (each.judgement == BROKE and uid in found)}
     bad = [{"uid": str(uid), "text": text, "is_broken": uid in broken} for uid, text in reasons.items()
            if uid in broken or uid not in good]
-    return said, reasons, {"devices": bad, "others": [each.text for uid, each in about if uid is None]}
+    return said, reasons, {"devices": bad, "others": [each.text for uid, each in about if uid is None],
+                           "is_broken": said.is_broken}
 
 
 class Watcher(threading.Thread):
@@ -153,7 +155,7 @@ class Watcher(threading.Thread):
         self._has_ended = threading.Event()
         # The last requests, by their numbers, and how many there were.
         self._requests: Dict[int, Dict[str, Any]] = {}
-        self._numbers = 0
+        self._numbers = itertools.count()
         self._parts = Parts()
         # The run that is seen, how far it is, and when its last frame came.
         self._run_number = 0
@@ -257,13 +259,11 @@ class Watcher(threading.Thread):
     def _take_request(self, keys: Keys, frame: bytes, reply: Optional[bytes]) -> None:
         """Shows a request with what came last for it."""
         number, client, command = keys["request"], keys.get("client"), decode_packet(frame)
-        known = self._requests.get(number)
-        if known is None:
-            known = {"at": self._numbers, "frames": 0}
-            self._numbers += 1
-            self._requests[number] = known
-            if len(self._requests) > MOST_REQUESTS:
-                del self._requests[next(iter(self._requests))]
+        if number not in self._requests:
+            self._requests[number] = {"at": next(self._numbers), "frames": 0}
+            for oldest in list(self._requests)[:-MOST_REQUESTS]:
+                del self._requests[oldest]
+        known = self._requests[number]
         joined = self._parts.joined(frame, reply)
         is_good = (command is not None and joined.response is not None and is_answer(reply or b"", frame)
                    and joined.response.port_or_type != ResponseType.NACK_REASON)
