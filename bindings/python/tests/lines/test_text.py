@@ -90,6 +90,10 @@ class Pipes:
         return self
 
     def __exit__(self, *why: object) -> None:
+        if not self._far_ends:
+            # This ends an exchange, also if a close doesn't.
+            self.frames.close()
+            self.replies.close()
         self.line.close()
         # A far end that is still reading would read from whatever gets the number of its file next.
         for far_end in self._far_ends:
