@@ -17,6 +17,7 @@ from common import ListLine, TestCase, folder
 from wurstlinen.line import LineBusy, LineFailed
 from wurstlinen.lines import EnttecPro
 from wurstlinen.lines.emulator import Emulator, Widget
+from wurstlinen.lines.locks import holder_of
 from wurstlinen.lines.terminal import Terminal
 
 # Linux: whether TIOCEXCL is in force.
@@ -157,7 +158,15 @@ class Locks(TestCase):
                 before = os.lstat(lock)
                 with self.assertRaisesRegex(LineFailed, "can't be understood"):
                     Terminal(emulator.path, locks)
+                self.assertEqual(holder_of(str(lock)), "")
                 self.assertTrue(os.path.samestat(os.lstat(lock), before))
+
+    def test_who_has_a_lock(self) -> None:
+        with folder() as locks, Emulator(ListLine()) as emulator:
+            lock = str(locks / f"LCK..{os.path.basename(emulator.path)}")
+            self.assertEqual(holder_of(lock), "")
+            with EnttecPro(emulator.path, locks):
+                self.assertEqual(holder_of(lock), Path("/proc/self/comm").read_text().strip())
 
     def test_the_lock_of_another_is_not_removed(self) -> None:
         with folder() as locks, Emulator(ListLine()) as emulator:
