@@ -15,8 +15,8 @@ from moments import Trial
 from servers import SECONDS, Program, command, serve
 from test_serve import FIVE, GET
 from wurstlinen import (
-    Closed, Full, Kind, NoPlaces, OutOfMemory, Request, RequestClass, RunFault, RunFaultKind, Status, TooManyClients, Uid,
-    UnknownClient,
+    Closed, Full, Kind, NoPlaces, OutOfMemory, Request, RequestClass, RunFault, RunFaultKind, Status, TooManyClients,
+    Uid, UnknownClient,
 )
 from wurstlinen.entries import Answer, CallKind, Came, Finish, Refuse
 from wurstlinen.shared.journal import CAPACITY, Journal, entry_keys, entry_line
