@@ -230,6 +230,28 @@ class Locks(TestCase):
                 Terminal(emulator.path, locks)
 
 
+class Writes(TestCase):
+    def test_a_device_that_is_gone(self) -> None:
+        with folder() as locks:
+            with Emulator(ListLine()) as emulator:
+                terminal = Terminal(emulator.path, locks)
+                self.assertTrue(terminal.is_there)
+            with self.assertRaisesRegex(LineFailed, "the device took no message"):
+                terminal.write(b"x")
+            self.assertFalse(terminal.is_open or terminal.is_there)
+            with self.assertRaisesRegex(LineFailed, "the device was closed"):
+                terminal.read_until(0.0)
+            self.assertEqual(os.listdir(locks), [])
+
+    def test_half_a_message(self) -> None:
+        with folder() as locks, Emulator(ListLine()) as emulator:
+            terminal = Terminal(emulator.path, locks)
+            with mock.patch("wurstlinen.lines.terminal.os.write", return_value=1), \
+                    self.assertRaisesRegex(LineFailed, "the device took 1 of 2 bytes of a message"):
+                terminal.write(b"ab")
+            self.assertEqual((terminal.is_open, os.listdir(locks)), (False, []))
+
+
 class Leaks(TestCase):
     def test_a_forgotten_driver_is_closed(self) -> None:
         with folder() as locks, Emulator(ListLine()) as emulator:
