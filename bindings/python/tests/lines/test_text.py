@@ -175,7 +175,7 @@ class Limits(TestCase):
     def test_no_device_answers_a_broadcast(self) -> None:
         everyone = Packet(0xFFFFFFFFFFFF, 1, 3, 1, 0, 0, 0x30, 0x0082, b"Lamp").encode()
         with Pipes(5.0) as pipes:
-            pipes.answers(line_of(response(2)) + b"\n")
+            pipes.answers(line_of(response(2)) + b"0102\n\n")
             self.assertEqual(pipes.line.exchange(everyone), b"")
 
     def test_nothing_is_sent_while_an_answer_is_owed(self) -> None:
