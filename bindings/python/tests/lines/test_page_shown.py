@@ -71,7 +71,11 @@ class Noted(unittest.TestCase):
 
     def test_errors_and_requests_are_noted(self) -> None:
         address = "http://127.0.0.1:9/asked"
-        with browser() as seen:
+        with folder() as place, browser() as seen:
+            # What the browser's first page throws is lost if another one comes in its place.
+            file = place / "page.html"
+            file.write_text('<html data-ready="yes"></html>', encoding="utf-8")
+            seen.open(file)
             seen.value("setTimeout(() => { throw new Error('thrown'); }), new Promise((done) => setTimeout(done))")
             seen.value(f"Promise.reject(new Error('rejected')), fetch('{address}').catch(() => 0)")
             words = ("Error: thrown", "Error: rejected", address)
@@ -81,7 +85,7 @@ class Noted(unittest.TestCase):
                 time.sleep(0.05)
             for word in words:
                 self.assertEqual(sum(word in each for each in seen.errors), 1, word)
-            self.assertEqual(seen.requests, [address])
+            self.assertEqual(seen.requests, [file.as_uri(), address])
 
 
 @needs_chromium
