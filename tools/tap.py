@@ -42,10 +42,13 @@ def write(lines: Iterable[str]) -> None:
 
 
 class NotedResult(unittest.TextTestResult):
-    """Notes each test that it gets."""
+    """Notes each test that it gets, and counts those that passed: not one of which a part was skipped."""
+
+    passed = 0
 
     def addSuccess(self, test: unittest.TestCase) -> None:
         super().addSuccess(test)
+        self.passed += 1
         note(test.id(), True)
 
     def addError(self, test: unittest.TestCase, err: Any) -> None:

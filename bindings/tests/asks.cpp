@@ -5,6 +5,7 @@
 #include <cstdlib>
 #include <deque>
 #include <memory>
+#include <numeric>
 #include <random>
 #include <string>
 #include <vector>
@@ -13,7 +14,7 @@
 using std::chrono::milliseconds;
 using Data = std::vector<std::uint8_t>;
 
-static const wurst::Uid source(0x7a70, 1), device(0x1234, 7);
+static const wurst::Uid source(0x7a70, 1), device(0x1234, 7), slow_device(0x1234, 8);
 static constexpr std::uint16_t label = 0x0082, hours = 0x0400, queued = 0x0020, status = 0x0030;
 static const Data lamp{'L', 'a', 'm', 'p'};
 
@@ -28,11 +29,7 @@ struct TestTime {
         *at += time;
     }
     milliseconds slept() const {
-        milliseconds sum{};
-        for (milliseconds nap : *naps) {
-            sum += nap;
-        }
-        return sum;
+        return std::accumulate(naps->begin(), naps->end(), milliseconds());
     }
 };
 
@@ -47,6 +44,7 @@ struct Said {
 
 static const Said silence{0, 0, {}, false, true};
 static const Said empty{WURST_ACK, status, {}};
+static const Said reported{WURST_ACK, status, {0, 0, 4, 0, 0x21, 0, 5, 0, 0}};
 
 static Said timer(std::uint16_t pid, std::uint8_t tenths, bool is_set = false) {
     return {WURST_ACK_TIMER, pid, {0, tenths}, is_set};
@@ -80,11 +78,8 @@ struct Device {
     }
 
     std::size_t count(std::uint16_t pid) const {
-        std::size_t found = 0;
-        for (const auto &each : asked) {
-            found += each.first == pid;
-        }
-        return found;
+        return static_cast<std::size_t>(
+            std::count_if(asked.begin(), asked.end(), [pid](const auto &each) { return each.first == pid; }));
     }
 };
 
@@ -145,13 +140,12 @@ static void asks_again() {
 
 static void keeps_other_messages() {
     TestTime time;
-    const Said report{WURST_ACK, status, {0, 0, 4, 0, 0x21, 0, 5, 0, 0}};
     Device busy{{timer(label, 1), {WURST_ACK, hours, Data(4)}, {WURST_ACK, label, {'o', 'l', 'd'}},
-                 {WURST_ACK, label, {}, true}, {WURST_ACK, label, lamp}, report, empty}};
+                 {WURST_ACK, label, {}, true}, {WURST_ACK, label, lamp}, reported, empty}};
     const auto answer = ask(busy, time);
     CHECK(answer.completion.data == lamp && answer.queued.size() == 4);
     CHECK(answer.queued[0].head.pid == hours && answer.queued[1].head.response_class == WURST_SET_RESPONSE);
-    CHECK(answer.queued[2].data == Data({'o', 'l', 'd'}) && answer.queued[3].data == report.data);
+    CHECK(answer.queued[2].data == Data({'o', 'l', 'd'}) && answer.queued[3].data == reported.data);
 }
 
 static void knows_whose_sensor_it_is() {
@@ -191,6 +185,11 @@ static void repeats_what_was_lost() {
     const auto other = ask(unknown, time);
     CHECK(other.completion.data == lamp && other.queued.size() == 1);
 
+    // A repeated report is kept once.
+    Device reporting{{timer(label, 1), silence, reported, reported, is_lamp, empty}};
+    const auto third = ask(reporting, time);
+    CHECK(third.completion.data == lamp && third.queued.size() == 1 && third.queued[0].data == reported.data);
+
     // The command was lost, and the device repeats what came before.
     Device line{{timer(label, 1), old, empty, timer(label, 1), silence, old, old, is_lamp, empty}};
     wurst::Controller queue(source);
@@ -212,18 +211,20 @@ static void fails() {
     wurst::Asker asker(queue, client, unplugged, milliseconds(10000), time);
     CHECK(asker.get(device, label).completion.status() == WURST_FAILED_TO_SEND);
 
-    Device prompt{{{WURST_ACK, hours, {}}, {WURST_ACK, label, lamp}}};
-    auto exchange = [&prompt](const wurst::Frame &frame) { return prompt.exchange(frame); };
-    queue.get(client, device, hours);
-    const auto answer = wurst::ask(queue, client, exchange, {device.number(), WURST_GET, 0, label});
+    Device slow{{{WURST_ACK, hours, {}}, timer(label, 1), {WURST_ACK, label, lamp}, empty}};
+    auto exchange = [&slow](const wurst::Frame &frame) { return slow.exchange(frame); };
+    const auto began = wurst::SteadyTime().now();
+    queue.get(client, slow_device, hours);
+    const auto answer = wurst::ask(queue, client, exchange, {slow_device.number(), WURST_GET, 0, label});
     CHECK(answer.completion.data == lamp && answer.earlier.size() == 1);
     CHECK(std::get<wurst::Completion>(answer.earlier[0]).head.pid == hours);
+    CHECK(wurst::SteadyTime().now() - began >= milliseconds(100));
     queue.pause();
     try {
         wurst::ask(queue, client, exchange, {device.number(), WURST_GET, 0, label});
         CHECK(false);
     } catch (const wurst::Unserved &) {
-        CHECK(prompt.asked.size() == 2);
+        CHECK(slow.asked.size() == 4);
     }
 }
 
@@ -244,11 +245,10 @@ struct Throwing {
 };
 
 static void keeps_what_was_collected() {
-    const Said report{WURST_ACK, status, {0, 0, 4, 0, 0x21, 0, 5, 0, 0}};
     for (std::size_t kept : {0, 1, 2}) {
         TestTime time;
         Device line{{{WURST_ACK, hours, {}}, timer(label, 1), {WURST_ACK, hours, Data(4)}, {WURST_ACK, label, lamp},
-                     report, empty}};
+                     reported, empty}};
         wurst::Controller queue(source);
         const auto client = queue.join(4);
         queue.get(client, device, hours);

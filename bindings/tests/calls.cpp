@@ -111,14 +111,19 @@ static void long_answers() {
     CHECK(!queue.next_completion(client));
 }
 
-// Garbage to each branch of a range that has the device, and silence to all else. The last one is that UID alone.
-static std::optional<std::vector<std::uint8_t>> garbled(wurst::Bytes frame) {
+// Whether a frame is a branch of a range that has the device.
+static bool is_branch_of_device(wurst::Bytes frame) {
     std::uint64_t first = 0, last = 0;
     for (std::size_t at = 24; frame.data[22] == 1 && at < 30; at++) {
         first = first << 8 | frame.data[at];
         last = last << 8 | frame.data[at + 6];
     }
-    return std::vector<std::uint8_t>(first <= device.number() && device.number() <= last, 0xff);
+    return first <= device.number() && device.number() <= last;
+}
+
+// Garbage to each branch of a range that has the device, and silence to all else. The last one is that UID alone.
+static std::optional<std::vector<std::uint8_t>> garbled(wurst::Bytes frame) {
+    return std::vector<std::uint8_t>(is_branch_of_device(frame), 0xff);
 }
 
 // The UID of a corrupt range, from an agent and from a queue.
@@ -172,6 +177,55 @@ static void sessions() {
     CHECK(log.entry(3, bytes, sizeof bytes).entry.has_failed);
     log = session.rotate(50);
     CHECK(log.entry_count() == 0);
+}
+
+// Silence to a line's frames, except that the device is found.
+static auto with_device() {
+    return [is_muted = false](wurst::Bytes frame) mutable {
+        auto heard = acknowledged(frame);
+        if (is_branch_of_device(frame) && !is_muted) {
+            std::size_t size = 0;
+            heard->resize(WURST_BRANCH_REPLY_BYTES);
+            wurst_branch_reply_write(device.number(), 7, heard->data(), heard->size(), &size);
+        }
+        is_muted |= frame.data[22] == 2;
+        return heard;
+    };
+}
+
+// Each call of a kind of queue, where no other one gives the same.
+template <typename Queue> static void each_call(Queue queue) {
+    const auto client = queue.join(2);
+    queue.pause();
+    CHECK(queue.is_idle() && queue.is_paused() && !queue.is_closed() && !queue.awaits());
+    CHECK(queue.get(client, device, 0x0060) == 0 && !queue.take() && !queue.is_idle());
+    queue.resume();
+    std::uint8_t reply[257], four[] = {'f', 'o', 'u', 'r'};
+    const auto frame = queue.take();
+    CHECK(frame && queue.awaits() && !queue.is_paused() && !queue.oldest(client));
+    queue.deliver(wurst::Bytes(reply, answer(frame->data(), 0, four, 4, reply)));
+    CHECK(queue.oldest(client) == WURST_REQUEST_OUTCOME && !queue.is_idle());
+    const auto done = queue.next_completion(client, reply, sizeof reply);
+    CHECK(done && done->data.size == 4 && !done->may_be_incomplete() && queue.is_idle());
+
+    queue.discover(client);
+    CHECK(queue.run(with_device()) > 5);
+    queue.discover(client, WURST_INCREMENTAL);
+    queue.take();
+    queue.fail();
+    wurst_device forms[2];
+    CHECK(queue.oldest(client) == WURST_DISCOVERY_OUTCOME && queue.devices(forms, 2)[0].uid == device);
+    const auto view = queue.next_discovery(client, forms, 2);
+    CHECK(view && view->fault() == WURST_NO_FAULT && view->devices.size() == 1 && view->devices[0].uid == device);
+    const auto failed = queue.next_discovery(client);
+    CHECK(failed && failed->number() == 1 && failed->fault() == WURST_LINE_FAILED && failed->devices.empty());
+    CHECK(queue.devices_run() == 1 && queue.bad_uids_run() == 2 && queue.bad_uids().uids.empty());
+    queue.discover(client);
+    queue.run(garbled);
+    CHECK(queue.bad_uids().uids == std::vector<wurst::Uid>{device} && queue.bad_uids_run() == 3);
+    CHECK(queue.devices().size() == 1 && queue.devices_run() == 1);
+    queue.close();
+    CHECK(queue.is_closed() && !queue.is_paused() && !queue.is_idle());
 }
 
 static void keeps_nothing() {
@@ -237,6 +291,8 @@ int main() {
     long_answers();
     corrupt_ranges();
     sessions();
+    each_call(wurst::Controller(source));
+    each_call(wurst::Session(source, 1000));
     keeps_nothing();
     drains();
 

@@ -66,6 +66,8 @@ static Data reply_to(const std::uint8_t *command, const Said &said) {
     return reply;
 }
 
+static bool is_discovery(const wurst::Frame &frame) { return frame.data()[20] == 0x10; }
+
 // A device that acknowledges its mute, is silent to other discovery commands, and answers a GET by its label.
 static Reply prompt(const wurst::Frame &frame) {
     const std::uint8_t *command = frame.data();
@@ -206,13 +208,27 @@ static std::size_t count(const wurst::Answer &answer, const Said &said) {
     return found;
 }
 
-// An asker at one moment. False: the moment didn't come.
+// How many discoveries were handed out.
+static std::size_t discoveries(const wurst::Answer &answer) {
+    std::size_t found = 0;
+    for (const auto &each : answer.earlier) {
+        found += std::holds_alternative<wurst::Discovery>(each);
+    }
+    return found;
+}
+
+// An asker at one moment, of a client that has a discovery outstanding. False: the moment didn't come.
 static bool asks() {
     milliseconds at(100000);
     std::deque<Said> says = messages;
     wurst::Controller queue(source);
-    auto exchange = [&says](const wurst::Frame &frame) {
+    bool is_muted = false;
+    auto exchange = [&says, &is_muted](const wurst::Frame &frame) {
         const Called called;
+        if (is_discovery(frame)) {
+            const bool is_mute = frame.data()[22] == 2;
+            return std::exchange(is_muted, is_muted || is_mute) ? Reply(Data()) : prompt(frame);
+        }
         const Said said = says.front();
         // After an exchange that failed, a GET of the same is made twice.
         if (says.size() > 1) {
@@ -220,7 +236,9 @@ static bool asks() {
         }
         return Reply(reply_to(frame.data(), said));
     };
-    wurst::Asker asker(queue, queue.join(4), exchange, milliseconds(10000), TestTime{&at});
+    const auto client = queue.join(4);
+    queue.discover(client);
+    wurst::Asker asker(queue, client, exchange, milliseconds(10000), TestTime{&at});
     calls = allocations = 0;
     is_armed = true;
     bool has_come = true;
@@ -228,7 +246,8 @@ static bool asks() {
         const auto answer = asker.get(device, label);
         has_come = false;
         is_armed = false;
-        CHECK(answer.completion.data == messages[2].data && answer.queued.size() == 2 && answer.earlier.empty());
+        CHECK(answer.completion.data == messages[2].data && answer.queued.size() == 2);
+        CHECK(answer.earlier.size() == 1 && std::get<wurst::Discovery>(answer.earlier[0]).devices.size() == 1);
     } catch (const Thrown &) {
     } catch (const std::bad_alloc &) {
     }
@@ -238,6 +257,7 @@ static bool asks() {
     calls = throws;
     const auto next = asker.get(device, label);
     CHECK(next.completion.data == Data({'n', 'e', 'w'}) && !queue.awaits());
+    CHECK(discoveries(next) == (has_come ? 1 : 0));
     // The last message only says that there are no more.
     for (std::size_t i = 0; has_come && i + 1 < messages.size(); i++) {
         CHECK(count(next, messages[i]) == (i < said ? 1 : 0));

@@ -487,6 +487,10 @@ class Loading(unittest.TestCase):
     def test_no_library(self) -> None:
         self.assertIn("LibraryNotFound: libwurstlinen.so.0 is not at /nowhere", self.load("/nowhere"))
 
+    def test_a_file_that_is_no_library(self) -> None:
+        own = os.path.abspath(__file__)
+        self.assertIn(f"LibraryNotFound: {own} can't be loaded: ", self.load(own))
+
     def test_another_library(self) -> None:
         self.assertIn("VersionDiffers: the library has no call wurst_version", self.load(ctypes_library()))
 

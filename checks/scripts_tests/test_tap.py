@@ -1,12 +1,15 @@
 """What ./check --tap writes, with stand-ins for the parts of the gate."""
 from __future__ import annotations
 
+import io
 import re
 import shutil
 import unittest
 from pathlib import Path
 from typing import List
+from unittest import mock
 
+import tap
 from clone import ROOT, Clone, new_clone
 
 PARTS = ("memory", "copies", "mutants", "pages", "layout", "linters", "scripts", "lines", "cases", "bindings", "fuzz",
@@ -39,6 +42,31 @@ tap.note("in Python", True)
 """
 # TAP's specification, version 13: a test's line.
 TEST = re.compile(r"^(not )?ok( - (?:\\#|[^#])*( # SKIP .+)?)?$")
+
+
+class Parts(unittest.TestCase):
+    """Tests whose parts are skipped, or fail."""
+
+    def skipped(self) -> None:
+        for number in range(3):
+            with self.subTest(number=number):
+                self.skipTest("not here")
+
+    def failed(self) -> None:
+        for number in range(3):
+            with self.subTest(number=number):
+                self.assertEqual(number, 1)
+
+    def good(self) -> None:
+        """It has no parts."""
+
+
+class Counts(unittest.TestCase):
+    def test_a_part_that_is_skipped_takes_no_other_test_away(self) -> None:
+        tests = unittest.TestSuite(map(Parts, ("skipped", "failed", "good")))
+        with mock.patch.object(tap, "FILE", ""):
+            result = unittest.TextTestRunner(io.StringIO(), resultclass=tap.NotedResult).run(tests)
+        self.assertEqual((result.passed, len(result.skipped), len(result.failures)), (1, 3, 2))
 
 
 class Tap(unittest.TestCase):

@@ -124,6 +124,7 @@ void test_settings();
 void test_threads();
 void test_wild_layers();
 void test_moments();
+void test_records();
 void test_own();
 void test_lost_parts(unsigned long runs);
 void test_length(unsigned long requests);

@@ -569,6 +569,8 @@ void test_settings() {
     test_with("WURSTLINEN_SECONDS", "1", &test_seconds);
     test_with("WURSTLINEN_SEARCH", "steady", &test_silent_run<TargetLower>);
     test_with("WURSTLINEN_SEARCH", "steady", &test_shifted_first_run);
+    // It is no file, so that nothing is left of the log.
+    test_with("WURSTLINEN_LOG", "/dev/null", &test_records);
 }
 
 void test_lines() {

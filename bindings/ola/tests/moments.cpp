@@ -383,6 +383,9 @@ template <typename L> void test_layer() {
 
 } // namespace
 
+// A record of the log that there is no memory for is lost, and nothing else is.
+void test_records() { test_each<ThrowingTarget>(When::Inside, &Moment::fails, &Moment::allocations); }
+
 void test_moments() {
     test_layer<Throwing<Lower>>();
     test_layer<ThrowingTarget>();

@@ -18,8 +18,7 @@ def main() -> int:
     bad: Set[str] = {test.id() for test, _ in (*result.errors, *result.failures)}
     bad |= {test.id() for test in result.unexpectedSuccesses}
     skipped = sorted({f"{test.id()}: {reason}" for test, reason in result.skipped})
-    passed = result.testsRun - len(result.skipped) - len(bad)
-    print(json.dumps({"passed": passed, "failed": len(bad), "skipped": skipped}))
+    print(json.dumps({"passed": result.passed, "failed": len(bad), "skipped": skipped}))
     return 1 if bad else 0
 
 

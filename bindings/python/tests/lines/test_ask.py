@@ -168,6 +168,12 @@ class Waits(Asks):
         self.check(self.ask(Device(answer)), b"Lamp")
         self.assertLess(self.clock.now, 108.0)
 
+    def test_a_queue_that_says_that_it_needs_longer(self) -> None:
+        line = Device(Queueing(3, timer(LABEL, 5), LAMP))
+        self.check(self.ask(line), b"Lamp")
+        self.assertEqual(line.asked, [(LABEL, b""), *[(QUEUED, ERROR)] * 3])
+        self.assertEqual(self.clock.naps, [0.3, 0.6])
+
     def test_a_time_of_another_size(self) -> None:
         for data in (b"", b"\x01", b"\x01\x00\x00"):
             answers = [(ResponseType.ACK_TIMER, LABEL, data, CommandClass.GET), LAMP, EMPTY]

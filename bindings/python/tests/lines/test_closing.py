@@ -49,9 +49,12 @@ class Waiting:
         time.sleep(0.2)
         test.assertTrue(self._thread.is_alive(), "it doesn't wait")
         began = time.monotonic()
-        close()
+        closing = Waiting(close)
+        closing._thread.join(5 * STANDSTILL)
+        test.assertFalse(closing._thread.is_alive(), "the close waits for ever")
+        test.assertIsNone(closing.fault)
         closed = time.monotonic() - began
-        self._thread.join(10 * STANDSTILL)
+        self._thread.join(5 * STANDSTILL)
         ended = time.monotonic() - began
         test.assertFalse(self._thread.is_alive(), "it waits for ever")
         test.assertLess(max(closed, ended), SECONDS + STANDSTILL)

@@ -4,7 +4,7 @@ from __future__ import annotations
 import time
 import unittest
 
-from common import ANSWER_SECONDS, TestCase, adapter, folder, one, random_scene, scene, uids_of
+from common import ANSWER_SECONDS, LongTestCase, TestCase, adapter, folder, one, random_scene, scene, uids_of
 from script import BRANCH, END, GET, LAMP, REPLY, UNMUTE, Script, received
 from search import discover
 from wurstlinen.line import LineFailed
@@ -13,7 +13,7 @@ from wurstlinen.lines.emulator import Widget
 from wurstlinen.lines.packets import Packet
 
 
-class EndsAfterAll(TestCase):
+class EndsAfterAll(LongTestCase):
     """An adapter that sends label 12 after good responses too, which OLA expects of none."""
 
     def test_they_are_awaited_once_one_came(self) -> None:

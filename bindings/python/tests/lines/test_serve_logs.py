@@ -14,9 +14,16 @@ from common import LongTestCase, TestCase, folder, needs_library
 from moments import Trial
 from servers import SECONDS, Program, command, serve
 from test_serve import FIVE, GET
+from wurstlinen import (
+    Closed, Full, Kind, NoPlaces, OutOfMemory, Request, RequestClass, RunFault, RunFaultKind, Status, TooManyClients,
+    Uid, UnknownClient,
+)
+from wurstlinen.entries import Answer, CallKind, Came, Finish, Refuse
+from wurstlinen.shared.journal import CAPACITY, Journal, entry_keys, entry_line
 from wurstlinen.shared.log_file import LogFile, LogWriter
 
 LINE = f"rig:{FIVE}"
+LABEL = Request(Uid(0x1234, 1), 0x0082, b"AB", 3, RequestClass.SET)
 
 
 @needs_library
@@ -172,6 +179,49 @@ class Logs(LongTestCase):
             self.assertEqual((made / "log").read_bytes(), b"first\n123456789\nlast\n")
             self.assertEqual(said, [f"{made / 'log'}: the disk hangs; the log goes on when it can be written again",
                                     f"{made / 'log'}: the log goes on after 2 lost lines"])
+
+
+class Texts(TestCase):
+    """What a log says of an entry, by the page of formats."""
+
+    def test_refusals(self) -> None:
+        for causes, entry, text in (
+                ((Closed, TooManyClients, NoPlaces, OutOfMemory),
+                 lambda cause: Refuse(CallKind.JOIN, cause, places=5), '"places":5'),
+                ((Closed, UnknownClient, Full), lambda cause: Refuse(CallKind.SUBMIT, cause, 7, request=LABEL),
+                 '"client":7,"set":"1234:00000001","pid":"0082","sub":3,"param":"4142"'),
+                ((Closed, UnknownClient, Full),
+                 lambda cause: Refuse(CallKind.DISCOVER, cause, 7, kind=Kind.INCREMENTAL),
+                 '"client":7,"discover":"incremental"')):
+            for number, cause in enumerate(causes, 1):
+                self.assertEqual(entry_line(entry_keys(entry(cause), 9)).decode(),
+                                 f'{{"entry":"refuse",{text},"cause":{number},"microseconds":9}}\n')
+
+    def test_ends(self) -> None:
+        for entry, text in (
+                (Came(None), '"came","failed":true'), (Came(b""), '"came","reply":""'),
+                (Finish(0, Status.FAILED_TO_SEND, 0), '"finish","number":0,"status":2,"length":0'),
+                (Answer(1, 2, None), '"answer","number":1,"run":2'),
+                (Answer(1, 0, RunFault(RunFaultKind.ABORTED)), '"answer","number":1,"run":0,"fault":5'),
+                (Answer(1, 2, RunFault(RunFaultKind.CORRUPT, LABEL.target)),
+                 '"answer","number":1,"run":2,"fault":1,"uid":"1234:00000001"')):
+            self.assertEqual(entry_line(entry_keys(entry, 9)).decode(), f'{{"entry":{text},"microseconds":9}}\n')
+
+    def test_without_memory_for_a_page_nothing_is_lost(self) -> None:
+        class Stored:
+            """A session that stores entries."""
+
+            def entry_count(self) -> int:
+                return CAPACITY
+
+            def entries(self, first: int) -> List[int]:
+                return list(range(first, CAPACITY))
+
+            def drain(self, entries: int) -> None:
+                raise OutOfMemory()
+
+        made = Journal(Stored())  # type: ignore[arg-type]
+        self.assertEqual((made.drain(), len(made.new()), made.drain(), made.new()), ([], CAPACITY, [], []))
 
 
 class Worst(TestCase):

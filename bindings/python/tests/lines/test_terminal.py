@@ -17,6 +17,7 @@ from common import ListLine, TestCase, folder
 from wurstlinen.line import LineBusy, LineFailed
 from wurstlinen.lines import EnttecPro
 from wurstlinen.lines.emulator import Emulator, Widget
+from wurstlinen.lines.locks import holder_of
 from wurstlinen.lines.terminal import Terminal
 
 # Linux: whether TIOCEXCL is in force.
@@ -157,7 +158,15 @@ class Locks(TestCase):
                 before = os.lstat(lock)
                 with self.assertRaisesRegex(LineFailed, "can't be understood"):
                     Terminal(emulator.path, locks)
+                self.assertEqual(holder_of(str(lock)), "")
                 self.assertTrue(os.path.samestat(os.lstat(lock), before))
+
+    def test_who_has_a_lock(self) -> None:
+        with folder() as locks, Emulator(ListLine()) as emulator:
+            lock = str(locks / f"LCK..{os.path.basename(emulator.path)}")
+            self.assertEqual(holder_of(lock), "")
+            with EnttecPro(emulator.path, locks):
+                self.assertEqual(holder_of(lock), Path("/proc/self/comm").read_text().strip())
 
     def test_the_lock_of_another_is_not_removed(self) -> None:
         with folder() as locks, Emulator(ListLine()) as emulator:
@@ -219,6 +228,28 @@ class Locks(TestCase):
             self.assertTrue(is_exclusive(emulator.path))
             with self.assertRaisesRegex(LineFailed, f"used by process {os.getpid()}"):
                 Terminal(emulator.path, locks)
+
+
+class Writes(TestCase):
+    def test_a_device_that_is_gone(self) -> None:
+        with folder() as locks:
+            with Emulator(ListLine()) as emulator:
+                terminal = Terminal(emulator.path, locks)
+                self.assertTrue(terminal.is_there)
+            with self.assertRaisesRegex(LineFailed, "the device took no message"):
+                terminal.write(b"x")
+            self.assertFalse(terminal.is_open or terminal.is_there)
+            with self.assertRaisesRegex(LineFailed, "the device was closed"):
+                terminal.read_until(0.0)
+            self.assertEqual(os.listdir(locks), [])
+
+    def test_half_a_message(self) -> None:
+        with folder() as locks, Emulator(ListLine()) as emulator:
+            terminal = Terminal(emulator.path, locks)
+            with mock.patch("wurstlinen.lines.terminal.os.write", return_value=1), \
+                    self.assertRaisesRegex(LineFailed, "the device took 1 of 2 bytes of a message"):
+                terminal.write(b"ab")
+            self.assertEqual((terminal.is_open, os.listdir(locks)), (False, []))
 
 
 class Leaks(TestCase):

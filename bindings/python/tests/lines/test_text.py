@@ -90,6 +90,10 @@ class Pipes:
         return self
 
     def __exit__(self, *why: object) -> None:
+        if not self._far_ends:
+            # This ends an exchange, also if a close doesn't.
+            self.frames.close()
+            self.replies.close()
         self.line.close()
         # A far end that is still reading would read from whatever gets the number of its file next.
         for far_end in self._far_ends:
@@ -167,6 +171,12 @@ class Limits(TestCase):
                 time.sleep(0.1)
                 pipes.answers(b"02\n")
                 self.assertEqual(pipes.line.exchange(FRAME), b"\x02")
+
+    def test_no_device_answers_a_broadcast(self) -> None:
+        everyone = Packet(0xFFFFFFFFFFFF, 1, 3, 1, 0, 0, 0x30, 0x0082, b"Lamp").encode()
+        with Pipes(5.0) as pipes:
+            pipes.answers(line_of(response(2)) + b"0102\n\n")
+            self.assertEqual(pipes.line.exchange(everyone), b"")
 
     def test_nothing_is_sent_while_an_answer_is_owed(self) -> None:
         """Whenever it comes, it is the earlier frame's, so it is never given up."""

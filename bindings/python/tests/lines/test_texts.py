@@ -20,7 +20,7 @@ from servers import SECONDS, Program, environment, serve
 from stand_in import program_in
 from wurstlinen import tool
 from wurstlinen._times import now
-from wurstlinen.front.frames import Parts
+from wurstlinen.front.frames import Parts, command_of
 from wurstlinen.front.output import Failure, Output
 from wurstlinen.front.watched import WatchedLine
 from wurstlinen.line import LineFailed
@@ -173,6 +173,11 @@ class Joined(TestCase):
 
 
 class Bytes(TestCase):
+    def test_of_data_that_does_not_fit(self) -> None:
+        for data, text in ((b"\0\x11", "17"), (b"\x11", "0x11"), (b"\2\1", "0x0201"), (b"\0\x11\0", "0x001100")):
+            frame = Packet(DEVICE, SOURCE, 0, 1, 0, 0, CommandClass.SET, Pid.DMX_START_ADDRESS, data).encode()
+            self.assertEqual(command_of(frame), f"SET 1234:00000001 dmx_start_address {text}")
+
     def test_below_each_exchange(self) -> None:
         errors = io.StringIO()
         reply = answer(ResponseType.ACK, b"Front left, upper row")

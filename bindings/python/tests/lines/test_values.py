@@ -275,6 +275,19 @@ class Words(TestCase):
             with self.assertRaisesRegex(WordFault, f"^dmx_start_address: '{digit * 40}..' is too long for a number$"):
                 encode(STANDARD.named("dmx_start_address"), True, [digit * 5_000])
 
+    def test_fields_by_which_no_parameter_of_the_standards_is_set(self) -> None:
+        rest = Group("rest", (Number("second", 1), Text("third", 0, 2)))
+        for fields, words, wanted in (
+                ((UidField("uid"),), ["1234"], "uid: '1234' isn't a UID, such as 7a70:00000001"),
+                ((Mac("mac"),), ["02:00"], "mac: '02:00' isn't a hardware address, such as 02:00:00:00:00:01"),
+                ((Bytes("data"),), ["0x1"], "data: '0x1' isn't 0x and hexadecimal bytes"),
+                ((Bytes("data", 0, 1),), ["0x0102"], "data: it has 2 bytes, and 0 to 1 are possible"),
+                ((Number("first", 1), rest), [], "SET own takes FIRST [SECOND THIRD ..], and not 0 arguments")):
+            parameter = Parameter("own", 0x8001, "", set=Message(fields, (), SubDevices.ROOT))
+            with self.assertRaises(WordFault) as caught:
+                encode(parameter, True, words)
+            self.assertEqual(str(caught.exception), wanted)
+
     def test_values_of_python_are_taken(self) -> None:
         for name, values, wanted in (
                 ("dmx_start_address", [17], "0011"), ("identify_device", [True], "01"),
@@ -359,6 +372,13 @@ class Lines(TestCase):
         self.assertEqual([value_text(each, values[each.name]) for each in field.response], ["2", "1234:000000ff"])
         with self.assertRaises(Misfit):
             values_of(field.response, bytes.fromhex("0002" + "123400000001" * 2))
+
+    def test_groups_that_do_not_fit(self) -> None:
+        for group, wanted in (
+                (Group("values", (Number("value", 1),), 2, 2), "values has 1 elements, and 2 at least are expected"),
+                (Group("texts", (Text("text", 0, 0),)), "texts has an element without data")):
+            with self.assertRaisesRegex(Misfit, f"^{wanted}$"):
+                values_of((group,), b"\x01")
 
 
 class Descriptions(TestCase):

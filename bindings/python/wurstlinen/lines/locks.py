@@ -89,15 +89,16 @@ class LockFile:
 
     def _remove_stale(self) -> None:
         """Removes a lock file whose process has ended; `LineFailed` if it hasn't, or if the file doesn't say."""
-        flags = os.O_RDONLY | os.O_NOFOLLOW | os.O_NONBLOCK | os.O_CLOEXEC
         try:
-            found = open(self._path, "rb", 0, opener=lambda path, _: os.open(path, flags))
+            found = _opened(self._path)
         except FileNotFoundError:
             return
         except OSError as error:
             raise self._unclear() from error
         with found:
-            process = self._owner(found.fileno())
+            process = _process_in(found.fileno())
+            if process is None:
+                raise self._unclear()
             is_free = _try_flock(found.fileno())
             # A lock with this process's own number that nobody holds is from a process before.
             if _is_alive(process) and not (is_free and process == os.getpid()):
@@ -106,16 +107,6 @@ class LockFile:
             if not is_free:
                 raise self._being_opened()
             self._move_away(os.fstat(found.fileno()))
-
-    def _owner(self, descriptor: int) -> int:
-        """The process that a lock file names."""
-        text = b""
-        if stat.S_ISREG(os.fstat(descriptor).st_mode):
-            text = os.read(descriptor, MOST_LOCK_BYTES + 1)
-        match = re.fullmatch(PROCESS, text)
-        if match is None or len(text) > MOST_LOCK_BYTES:
-            raise self._unclear()
-        return int(match[1])
 
     def _move_away(self, stale: os.stat_result) -> None:
         """Removes the stale lock, and no other that has come to its path."""
@@ -173,6 +164,21 @@ def _try_flock(descriptor: int) -> bool:
     return True
 
 
+def _opened(path: str) -> io.FileIO:
+    """What has a lock's name. It may be anything, so it isn't waited for, and no link is followed."""
+    flags = os.O_RDONLY | os.O_NOFOLLOW | os.O_NONBLOCK | os.O_CLOEXEC
+    return io.FileIO(path, "rb", opener=lambda name, _: os.open(name, flags))
+
+
+def _process_in(descriptor: int) -> Optional[int]:
+    """The process that a lock file names; None if it names none."""
+    text = b""
+    if stat.S_ISREG(os.fstat(descriptor).st_mode):
+        text = os.read(descriptor, MOST_LOCK_BYTES + 1)
+    match = re.fullmatch(PROCESS, text)
+    return None if match is None or len(text) > MOST_LOCK_BYTES else int(match[1])
+
+
 def _is_alive(process: int) -> bool:
     try:
         os.kill(process, 0)
@@ -222,8 +228,8 @@ def _open_files(process: int) -> List[str]:
 def holder_of(path: str) -> str:
     """What the process calls itself that a lock file names; nothing if that isn't known."""
     try:
-        with open(path, "rb") as file:
-            found = re.fullmatch(PROCESS, file.read(MOST_LOCK_BYTES))
+        with _opened(path) as file:
+            process = _process_in(file.fileno())
     except OSError:
         return ""
-    return "" if found is None else name_of(int(found[1]))
+    return "" if process is None else name_of(process)
