@@ -21,6 +21,13 @@ use Rattle.rdm_findings.specs.HeardUids.{in_uids}
 use Rattle.rdm_findings.specs.Mentions.{misread_in}
 use Rattle.rdm_findings.specs.Starts.{has_start, number_at}
 
+-- five mutes in a row without an answer, before the last one. The flag says that the device was heard in the exchanges
+-- that the log has
+abbrev pub mutes_before : Bool → List ℕ
+mutes_before heard =
+    if heard then codes " didn't mute: take it off the line and discover again (exchange "
+    else codes " didn't mute: check its power, its cable, its UID and that RDM is on (exchange "
+
 -- a breach and what to do about it, before the exchange that shows it. The first flag says that the device was heard in
 -- the exchanges that the log has, and the second that the log has all of the run. Only then it was never heard
 abbrev pub breach_before : (heard whole : Bool) → Rule → List ℕ
@@ -28,9 +35,7 @@ breach_before heard whole SilentBranches =
     if whole && not heard then
     codes " was never heard: check its power, its cable, its UID and that RDM is on (exchange "
     else codes " didn't answer: check its power and its cable (exchange "
-breach_before heard whole SilentMutes =
-    if heard then codes " didn't mute: take it off the line and discover again (exchange "
-    else codes " didn't mute: check its power, its cable, its UID and that RDM is on (exchange "
+breach_before heard whole SilentMutes = mutes_before heard
 breach_before heard whole GarbledMute =
     codes " didn't acknowledge a mute: take it off the line and discover again (exchange "
 

@@ -1,6 +1,7 @@
 //! What is printed about devices.
-ghost use Rattle.std.specs.Prelude.{◌≡◌, ◌++◌, Bool, false, OnOk, codes, decimal, flat_map};
-ghost use Rattle.rdm_findings.specs.DeviceText.{breach_before, breach_after, followed_text, until_text, over_text};
+ghost use Rattle.std.specs.Prelude.{◌≡◌, ◌++◌, false, OnOk, codes, decimal, flat_map};
+ghost use Rattle.rdm_findings.specs.DeviceText.{mutes_before, breach_before, breach_after};
+ghost use Rattle.rdm_findings.specs.DeviceText.{followed_text, until_text, over_text};
 ghost use Rattle.rdm_findings.specs.DeviceText.{yet_text, yet_doubt, found_text, missed_text, calm_text};
 ghost use Rattle.rdm_findings.specs.DeviceText.{unbroken_text, unfound_doubt, before_doubt, doubt_text};
 ghost use Rattle.rdm_findings.specs.DeviceText.{innocent_text, verdict_text};
@@ -388,7 +389,7 @@ fn silent_before(heard: bool, whole: bool) -> &'static str
 }
 
 fn mutes_before(heard: bool) -> &'static str
-    ensures { (whole : Bool) → result.now ≡ breach_before heard whole Rule.SilentMutes }
+    ensures { result.now ≡ mutes_before heard }
 {
     if heard {
         " didn't mute: take it off the line and discover again (exchange "

@@ -29,9 +29,15 @@ pub(crate) fn write_culprits(
     ensures { OnOk result (text.new.items ≡ text.old.items ++ flat_map (culprit_finding form) culprits.now) }
 {
     'culprits: for uid in culprits {
-        write_uid_finding(text, form, Judgement::Unmuted, *uid, CULPRIT)?;
+        write_culprit(text, form, *uid)?;
     }
     Ok(())
+}
+
+fn write_culprit(text: &mut Vec<u8>, form: Form, uid: Uid) -> Result<(), AllocError>
+    ensures { OnOk result (text.new.items ≡ text.old.items ++ culprit_finding form uid) }
+{
+    write_uid_finding(text, form, Judgement::Unmuted, uid, CULPRIT)
 }
 
 /// Writes a finding about each UID that was answered wrongly when it was asked alone, unless another line names it.
