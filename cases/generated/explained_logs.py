@@ -7,8 +7,9 @@ from __future__ import annotations
 
 from typing import Iterator
 
-from ..checker.case import Case
-from .runs import LIAR, answer, ask, discovery, misread, mutes, opening, refuses, session_opening, session_run, shows
+from ..checker.case import Case, Expected
+from .runs import LIAR, answer, ask, discovery, explained, misread, mutes, opening, refuses, session_opening
+from .runs import session_run, shows
 
 # A discovery that finds one device.
 FINDS = "3 unmute; all > found; mute found > ack; 5 all"
@@ -23,14 +24,18 @@ exchange 7 mutes a UID that neither acknowledged nor was muted five times in a r
 UNREAD = "exchange 7 mutes a UID that no earlier branch had read\n"
 # How a quick run goes on, and how it ends.
 GOES_ON = "0 devices; others may be on the line, or the log ends within the run\n"
-ENDS = "fault 1 1234:00000008 (asked alone, it couldn't be read or muted), 0 devices; others may be on the line\n"
+ENDS = """\
+fault 1 1234:00000008 (it alone was asked, and the answers weren't a new device's), 0 devices; \
+others may be on the line
+"""
 GARBLED = """\
 exchange 3{}: 1234:00000008 alone was asked, and bytes came that aren't its answer; \
 a rule was broken, by a device or noise: take 1234:00000008 off the line and discover again; \
 if it isn't there, split the line
 """
 IGNORES = """\
-1234:00000008 answered alone and then no mute: it left, or broke a rule; take it off the line and discover again
+1234:00000008 answered alone and then acknowledged no mute: it left, or broke a rule; \
+take it off the line and discover again
 """
 
 FOUND = """\
@@ -216,14 +221,14 @@ not settled: a device from 0000:00000000 up may be missing
 exchange 3 mutes a UID that no earlier branch had read
 """ + "".join(f"1234:{number:08x} was found, and followed the rules\n" for number in range(1, 1025)) + """\
 exchange 1027: bytes came after a mute of 1234:00000401, which isn't listed; \
-they may be noise, or those of a device that the log doesn't show
+they may be noise, or those of a device that isn't listed
 """
 
 # Quick runs in which several UIDs that aren't listed were answered wrongly when they were asked alone, or answered
 # alone and then no mute. The last one isn't the only one that is judged.
-ADVICE = "take it off the line and discover again"
-WRONG = f"{{}} alone was asked, and its answer was wrong: {ADVICE} (exchange {{}})\n"
-NO_MUTE = f"{{}} answered alone and then no mute: it left, or broke a rule; {ADVICE}\n"
+ADVICE, SPLIT = "take it off the line and discover again", "if it isn't there, split the line"
+WRONG = f"{{}} alone was asked, and bytes came that aren't its answer: {ADVICE}; {SPLIT} (exchange {{}})\n"
+NO_MUTE = f"{{}} answered alone and then acknowledged no mute: it left, or broke a rule; {ADVICE}\n"
 FIRST_WRONG = """\
 exchange {0} (and {1} more): {2} alone was asked, and bytes came that aren't its answer; \
 a rule was broken, by a device or noise: take {2} off the line and discover again; if it isn't there, split the line
@@ -240,11 +245,61 @@ LIARS = (
     ("two that answer no mute, one of them twice",
      "3 unmute; alone spare > spare; 5 mute spare; alone liar > liar; 5 mute liar; alone spare > spare; 5 mute spare",
      f"21 exchanges, {GOES_ON}{UNCOVERED}" + NO_MUTE.format(SPARE) + NO_MUTE.format(LIAR)),
-    ("one of each before an exchange that fails, which blames nobody for mutes",
+    ("one of each before an exchange that fails, and another one after it",
      "3 unmute; 4 alone spare > noise; alone liar > liar; 5 mute liar; all > failed; alone new > noise",
      "15 exchanges, 0 devices; others may be on the line\nexchange 13 failed: check the adapter and the cable\n"
-     + UNCOVERED + FIRST_WRONG.format(3, 3, SPARE)),
+     + UNCOVERED + NO_MUTE.format(LIAR) + FIRST_WRONG.format(3, 3, SPARE)),
+    ("one that answers no mute, well before an exchange that fails",
+     "3 unmute; alone spare > spare; 5 mute spare; 2 all; all > failed",
+     "12 exchanges, 0 devices; others may be on the line\nexchange 11 failed: check the adapter and the cable\n"
+     + UNCOVERED + NO_MUTE.format(SPARE)),
+    ("noise of a range, and then two of it that are answered wrongly",
+     "3 unmute; lower > noise; alone spare > noise; alone liar > noise; all", f"7 exchanges, {GOES_ON}{UNCOVERED}"
+     + WRONG.format(LIAR, 5) + "exchange 3 (and 2 more): the UIDs from 0000:00000000 to 7fff:ffffffff were asked, and "
+     "bytes came though no listed device was due; they may be noise, or those of a device that isn't listed\n"
+     + FIRST_WRONG.format(4, 1, SPARE)),
+    ("a broadcast UID that is answered wrongly", "3 unmute; alone spare > noise; alone nobody > noise; all",
+     f"6 exchanges, {GOES_ON}{UNCOVERED}ffff:ffffffff alone was asked, and bytes came that aren't its answer: "
+     "split the line and discover each half (exchange 4)\n" + FIRST_WRONG.format(3, 1, SPARE)),
+    ("two that are answered wrongly, but have no device, as the certificate is complete",
+     "3 unmute; alone spare > noise; alone liar > noise; 5 all",
+     "10 exchanges, 0 devices; no other device is on the line if all follow the rules\n"
+     + FIRST_WRONG.format(3, 1, SPARE)),
+    ("all but a broadcast UID ruled out", "3 unmute; 5 under; 5 over; alone spare > noise",
+     "14 exchanges, 0 devices; others may be on the line, or the log ends within the run\nnot settled: "
+     "1234:ffffffff wasn't ruled out, and perhaps UIDs above it; no device may have this one\n"
+     + FIRST_WRONG.replace(" (and {1} more)", "").format(13, 0, SPARE)),
 )
+
+# One that was known, and is answered wrongly and then not at all. It has one line.
+KNOWN_WRONG = opening("full", LIAR).replace("steady", "quick") + discovery(
+    "3 unmute; alone spare > noise; alone liar > noise; 5 alone liar")
+OF_KNOWN_WRONG = (f"discovery: full, quick, 10 exchanges, {GOES_ON}{UNCOVERED}" + WRONG.format(LIAR, 4)
+                  + FIRST_WRONG.format(3, 1, SPARE))
+# The same after an exchange that fails, where nothing is judged.
+KNOWN_LATE = opening("full", LIAR) + discovery("3 unmute; all > failed; alone spare > noise; alone liar > noise")
+OF_KNOWN_LATE = f"""\
+discovery: full, steady, 6 exchanges, 0 devices; others may be on the line
+exchange 3 failed: check the adapter and the cable
+{UNCOVERED}{LIAR} was known, and wasn't found: the run ended before it was clear whether it is there
+"""
+# A device that is given, and wasn't heard; but bytes came when it alone was asked.
+NOTICED = f"""\
+discovery: full, quick, 9 exchanges, 0 devices, but 1 listed device wasn't found; \
+no other device is on the line if all follow the rules
+{LIAR} didn't answer: check its power and its cable (exchange 8 is the fifth silence in a row in a range that holds it)
+""" + FIRST_WRONG.replace(" (and {1} more)", "").format(3, 0, LIAR)
+# The first of them as JSON.
+JSON_WRONG = """{"passing":[],"runs":[{"exchanges":10,"kind":"full","search":"quick","first":0,"devices":0,\
+"heard":"sssnnsssss","findings":[{"judgement":"undecided","sentence":"discovery: full, quick, 10 exchanges, \
+0 devices; others may be on the line, or the log ends within the run"},\
+{"judgement":"gap","uid":"0000:00000000","sentence":"not settled: a device from 0000:00000000 up may be missing"},\
+{"judgement":"garbled","uid":"1234:00000009","exchange":4,"sentence":"1234:00000009 alone was asked, and bytes came \
+that aren't its answer: take it off the line and discover again; if it isn't there, split the line (exchange 4)"},\
+{"judgement":"garbled","uid":"1234:00000008","exchange":3,"sentence":"exchange 3 (and 1 more): 1234:00000008 alone \
+was asked, and bytes came that aren't its answer; a rule was broken, by a device or noise: take 1234:00000008 off the \
+line and discover again; if it isn't there, split the line"}]}],"broken":true}
+"""
 
 # 18 UIDs are answered wrongly. A run of this project sets at most 16 apart.
 MANY_WRONG = QUICK + discovery("3 unmute") + misread(18, first=3)
@@ -296,6 +351,12 @@ def quick_runs() -> Iterator[Case]:
     for name, liars, said in LIARS:
         yield shows(f"a quick run with {name}", QUICK + discovery(liars), f"discovery: full, quick, {said}", 3)
     yield shows("a quick run with 18 that are answered wrongly", MANY_WRONG, OF_MANY, 3)
+    yield shows("a known one that is answered wrongly", KNOWN_WRONG, OF_KNOWN_WRONG, 3)
+    noticed = QUICK + discovery("3 unmute; alone liar > noise; 5 all")
+    yield shows("one that is given, and was noticed", noticed, NOTICED, 3, [LIAR])
+    yield shows("a known one that is answered wrongly after an exchange that fails", KNOWN_LATE, OF_KNOWN_LATE)
+    expected = Expected(3, JSON_WRONG.encode(), b"")
+    yield explained("a known one that is answered wrongly, as JSON", KNOWN_WRONG.encode(), expected, "--json")
     for name, answers, said in (("goes on", 7, f"15 exchanges, {GOES_ON}"), ("ends", 8, f"16 exchanges, {ENDS}")):
         run = discovery(f"3 unmute; {answers} alone spare > spare; 5 mute spare")
         yield shows(f"a quick run that {name} after five mutes", QUICK + run,

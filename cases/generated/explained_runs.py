@@ -35,8 +35,8 @@ status 3
 
 other bytes from another UID alone, with which a run ends
 3 unmute; alone spare > noise
-4 exchanges, fault 1 1234:00000008 (asked alone, it couldn't be read or muted), 0 devices, but 1 listed device wasn't \
-found; others may be on the line
+4 exchanges, fault 1 1234:00000008 (it alone was asked, and the answers weren't a new device's), \
+0 devices, but 1 listed device wasn't found; others may be on the line
 not settled: a device from 0000:00000000 up may be missing
 1234:00000009 wasn't found: the run ended before it was clear whether it is there; it broke no rule until then
 exchange 3: 1234:00000008 alone was asked, and bytes came that aren't its answer; \
@@ -61,7 +61,8 @@ five mutes without an acknowledgement after a complete certificate
 the log doesn't have the run's kind
 1234:00000009 was never heard: check its power, its cable, its UID and that RDM is on \
 (exchange 7 is the fifth silence in a row in a range that holds it)
-1234:00000008 answered alone and then no mute: it left, or broke a rule; take it off the line and discover again
+1234:00000008 answered alone and then acknowledged no mute: it left, or broke a rule; \
+take it off the line and discover again
 status 3
 
 other bytes after a mute of all devices, and after one of a device
@@ -86,11 +87,12 @@ status 0
 
 the same and five mutes of it, with which a run ends
 3 unmute; alone spare > spare; 5 mute spare
-9 exchanges, fault 1 1234:00000008 (asked alone, it couldn't be read or muted), 0 devices, but 1 listed device wasn't \
-found; others may be on the line
+9 exchanges, fault 1 1234:00000008 (it alone was asked, and the answers weren't a new device's), \
+0 devices, but 1 listed device wasn't found; others may be on the line
 not settled: a device from 0000:00000000 up may be missing
 1234:00000009 wasn't found: the run ended before it was clear whether it is there; it broke no rule until then
-1234:00000008 answered alone and then no mute: it left, or broke a rule; take it off the line and discover again
+1234:00000008 answered alone and then acknowledged no mute: it left, or broke a rule; \
+take it off the line and discover again
 status 3
 
 the same, but the line fails at the fifth mute
@@ -105,11 +107,11 @@ status 0
 
 the same with other bytes after each mute
 3 unmute; alone spare > spare; 5 mute spare > noise
-9 exchanges, fault 1 1234:00000008 (asked alone, it couldn't be read or muted), 0 devices, but 1 listed device wasn't \
-found; others may be on the line
+9 exchanges, fault 1 1234:00000008 (it alone was asked, and the answers weren't a new device's), \
+0 devices, but 1 listed device wasn't found; others may be on the line
 not settled: a device from 0000:00000000 up may be missing
 1234:00000009 wasn't found: the run ended before it was clear whether it is there; it broke no rule until then
-1234:00000008 answered alone and then no mute: it left, or broke a rule; take it off the line and discover again
+1234:00000008 answered alone and then acknowledged no mute: a rule was broken, by it, another device or noise
 exchange 4 (and 4 more): bytes came after a mute of 1234:00000008 that don't acknowledge it: \
 they are too short for a response; a rule was broken, by a device or noise: \
 take 1234:00000008 off the line and discover again; if it isn't there, split the line
@@ -127,9 +129,8 @@ status 0
 
 a device that is off, which an incremental run mutes first
 3 unmute; 5 mute liar; 5 all
-discovery: 13 exchanges, 0 devices, but 1 listed device wasn't found; \
-no other device is on the line if all follow the rules; \
-the log doesn't have the run's kind
+discovery: 13 exchanges, 0 devices, but 1 listed device wasn't found; no other device is on the line \
+if all follow the rules; the log doesn't have the run's kind
 no byte came in the whole run: check the adapter and the first cable
 1234:00000009 didn't mute: check its power, its cable, its UID and that RDM is on \
 (exchange 7 is the fifth mute of it in a row without an answer)
@@ -137,7 +138,7 @@ status 3
 
 a broadcast UID that answers alone
 3 unmute; alone nobody > nobody
-discovery: 4 exchanges, fault 1 ffff:ffffffff (asked alone, it couldn't be read or muted), \
+discovery: 4 exchanges, fault 1 ffff:ffffffff (it alone was asked, and the answers weren't a new device's), \
 0 devices, but 1 listed device wasn't found; others may be on the line
 not settled: a device from 0000:00000000 up may be missing
 1234:00000009 wasn't found: the run ended before it was clear whether it is there; it broke no rule until then
@@ -147,7 +148,7 @@ status 3
 
 other bytes from a broadcast UID alone
 3 unmute; alone nobody > noise
-discovery: 4 exchanges, fault 1 ffff:ffffffff (asked alone, it couldn't be read or muted), \
+discovery: 4 exchanges, fault 1 ffff:ffffffff (it alone was asked, and the answers weren't a new device's), \
 0 devices, but 1 listed device wasn't found; others may be on the line
 not settled: a device from 0000:00000000 up may be missing
 1234:00000009 wasn't found: the run ended before it was clear whether it is there; it broke no rule until then
@@ -165,18 +166,18 @@ status 0
 
 bytes of a device that stays unmuted, first where another one was due, and then from it alone
 3 unmute; all > liar; mute liar > ack; all > liar; mute spare > ack; 2 alone liar > liar
-discovery: 9 exchanges, fault 1 1234:00000009 (asked alone, it couldn't be read or muted), \
+discovery: 9 exchanges, fault 1 1234:00000009 (it alone was asked, and the answers weren't a new device's), \
 2 devices; others may be on the line
 not settled: a device from 0000:00000000 up may be missing
 1234:00000008 was found, and followed the rules
-1234:00000009 was found; exchange 7 has its UID and a bad answer, perhaps another device's
+1234:00000009 was found; exchange 7 has its UID and an answer that wasn't due, perhaps another device's
 exchange 7 (and 1 more): 1234:00000009 alone was asked and answered, though it was muted: \
 it restarted or broke a rule, or another has its UID; take it off the line and discover again
 status 3
 
 a device that answers alone, after an unmute and a mute that it didn't acknowledge
 3 unmute; mute liar > ack; unmute; mute liar; mute spare > ack; alone liar > liar
-discovery: 8 exchanges, fault 1 1234:00000009 (asked alone, it couldn't be read or muted), \
+discovery: 8 exchanges, fault 1 1234:00000009 (it alone was asked, and the answers weren't a new device's), \
 2 devices; others may be on the line
 not settled: a device from 0000:00000000 up may be missing
 1234:00000008 was found, and followed the rules
@@ -194,11 +195,11 @@ status 0
 the same, and then its text
 3 unmute; mute liar > ack; unmute; mute liar; mute spare > ack; alone liar > liar; mute liar > ack; alone liar; \
 alone liar > liar
-discovery: 11 exchanges, fault 1 1234:00000009 (asked alone, it couldn't be read or muted), \
+discovery: 11 exchanges, fault 1 1234:00000009 (it alone was asked, and the answers weren't a new device's), \
 2 devices; others may be on the line
 not settled: a device from 0000:00000000 up may be missing
 1234:00000008 was found, and followed the rules
-1234:00000009 was found; exchange 10 has its UID and a bad answer, perhaps another device's
+1234:00000009 was found; exchange 10 has its UID and an answer that wasn't due, perhaps another device's
 exchange 10: 1234:00000009 alone was asked and answered, though it was muted: \
 it restarted or broke a rule, or another has its UID; take it off the line and discover again
 status 3
@@ -217,7 +218,7 @@ not settled: a device from 0000:00000000 up may be missing
 1234:00000009 wasn't found yet; it followed the rules in the exchanges that the log has
 exchange 4: the UIDs from 8000:00000000 to ffff:ffffffff were asked, \
 and bytes came though no listed device was due; \
-they may be noise, or those of a device that the log doesn't show
+they may be noise, or those of a device that isn't listed
 status 0
 
 other bytes after a mute of a listed device, and silence after one of another UID
@@ -240,7 +241,7 @@ not settled: a device from 0000:00000000 up may be missing
 1234:00000009 didn't acknowledge a mute: take it off the line and discover again (exchange 3 has other bytes: \
 a rule was broken, by it, another device or noise)
 exchange 5: bytes came after a mute of 1234:00000008, which isn't listed; \
-they may be noise, or those of a device that the log doesn't show
+they may be noise, or those of a device that isn't listed
 exchange 3 (and 1 more): bytes came after a mute of 1234:00000009 that don't acknowledge it: \
 they are too short for a response; a rule was broken, by a device or noise: \
 take 1234:00000009 off the line and discover again; if it isn't there, split the line
@@ -256,12 +257,12 @@ status 0
 
 the same, and then noise from it alone
 3 unmute; all > noise; spare to liar > noise; mute liar; alone liar; alone liar > liar; 2 alone liar > noise
-discovery: 10 exchanges, fault 1 1234:00000009 (asked alone, it couldn't be read or muted), \
+discovery: 10 exchanges, fault 1 1234:00000009 (it alone was asked, and the answers weren't a new device's), \
 0 devices, but 1 listed device wasn't found; others may be on the line
 exchange 5 mutes a UID that neither acknowledged nor was muted five times in a row: perhaps no device has it
 not settled: a device from 0000:00000000 up may be missing
 1234:00000009 wasn't found: the run ended before it was clear whether it is there; \
-exchange 8 has its UID and a bad answer, perhaps another device's
+exchange 8 has its UID and an answer that wasn't due, perhaps another device's
 exchange 8 (and 1 more): 1234:00000009 alone was asked, and bytes came that aren't its answer; \
 a rule was broken, by a device or noise: take 1234:00000009 off the line and discover again; \
 if it isn't there, split the line
@@ -278,7 +279,7 @@ the same, and then one that is answered as a branch
 3 unmute; mute liar; mute liar > ack; mute liar > liar
 discovery: 6 exchanges, 1 device; others may be on the line, or the log ends within the run
 not settled: a device from 0000:00000000 up may be missing
-1234:00000009 was found, but didn't acknowledge a mute: take it off the line and discover again \
+1234:00000009 was found, but didn't acknowledge a mute \
 (exchange 5 has other bytes: a rule was broken, by it, another device or noise)
 exchange 5: bytes came after a mute of 1234:00000009 that don't acknowledge it: \
 they are too short for a response; a rule was broken, by a device or noise: \
@@ -287,7 +288,7 @@ status 3
 
 another UID's text from a broadcast UID alone
 3 unmute; alone nobody > spare
-discovery: 4 exchanges, fault 1 ffff:ffffffff (asked alone, it couldn't be read or muted), \
+discovery: 4 exchanges, fault 1 ffff:ffffffff (it alone was asked, and the answers weren't a new device's), \
 0 devices, but 1 listed device wasn't found; others may be on the line
 not settled: a device from 0000:00000000 up may be missing
 1234:00000009 wasn't found: the run ended before it was clear whether it is there; it broke no rule until then
@@ -299,7 +300,7 @@ other bytes after a mute, and then an acknowledgement
 3 unmute; mute liar > noise; mute liar > ack
 discovery: 5 exchanges, 1 device; others may be on the line, or the log ends within the run
 not settled: a device from 0000:00000000 up may be missing
-1234:00000009 was found, but didn't acknowledge a mute: take it off the line and discover again \
+1234:00000009 was found, but didn't acknowledge a mute \
 (exchange 3 has other bytes: a rule was broken, by it, another device or noise)
 exchange 3: bytes came after a mute of 1234:00000009 that don't acknowledge it: \
 they are too short for a response; a rule was broken, by a device or noise: \
@@ -342,9 +343,8 @@ status 0
 
 silence of the upper half, and then of the lower one
 3 unmute; 5 upper; 5 lower
-discovery: 13 exchanges, 0 devices, but 1 listed device wasn't found; \
-no other device is on the line if all follow the rules; \
-the log doesn't have the run's kind
+discovery: 13 exchanges, 0 devices, but 1 listed device wasn't found; no other device is on the line \
+if all follow the rules; the log doesn't have the run's kind
 no byte came in the whole run: check the adapter and the first cable
 1234:00000009 was never heard: check its power, its cable, its UID and that RDM is on \
 (exchange 12 is the fifth silence in a row in a range that holds it)
@@ -531,7 +531,7 @@ SPARE_ANSWERS = """\
 discovery: 4 exchanges, 0 devices; others may be on the line, or the log ends within the run
 exchange 3 mutes a UID that neither acknowledged nor was muted five times in a row: perhaps no device has it
 not settled: a device from 0000:00000000 up may be missing
-1234:00000008 wasn't found yet; exchange 3 has its UID and a bad answer, perhaps another device's
+1234:00000008 wasn't found yet; exchange 3 has its UID and an answer that wasn't due, perhaps another device's
 1234:00000009 didn't acknowledge a mute: take it off the line and discover again (exchange 3 has other bytes: \
 a rule was broken, by it, another device or noise)
 exchange 3: bytes came after a mute of 1234:00000009 that don't acknowledge it: they are from 1234:00000008; \

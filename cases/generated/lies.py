@@ -48,7 +48,7 @@ OPENING = (f'{{"entry":"opening","source":"{uid_text(SOURCE)}","budget":384008,"
            '"known":[]}\n')
 # The lines of explain that are compared, and what is left of them.
 UID = "([0-9a-f]{4}:[0-9a-f]{8})"
-IN_DOUBT = "has its UID and a bad answer, perhaps another device's"
+IN_DOUBT = "has its UID and an answer that wasn't due, perhaps another device's"
 SIGHTING = r"exchange (\d+)((?: \(and \d+ more\))?)"
 SHORTENED = {re.compile(line): short for line, short in (
     (f"{UID} was found, and followed the rules(?: in the exchanges that the log has)?", rf"\1 {FOUND}"),
@@ -57,7 +57,7 @@ SHORTENED = {re.compile(line): short for line, short in (
     (rf"{UID} wasn't found(?:: .* is there| yet); exchange (\d+) {IN_DOUBT}", rf"\1 {MISSED} \2"),
     (rf"{UID} (?:was never heard|didn't answer): .*\(exchange (\d+) is .*", rf"\1 {HIDDEN} \2"),
     (rf"{UID} didn't mute: .*\(exchange (\d+) is .*", rf"\1 {UNMUTED} \2"),
-    (rf"{UID} didn't acknowledge a mute: .*\(exchange (\d+) has .*", rf"\1 {GARBLED} \2"),
+    (rf"{UID} didn't acknowledge a mute(?:: .*)? \(exchange (\d+) has .*", rf"\1 {GARBLED} \2"),
     (rf"{UID} was found, but didn't answer: .*\(exchange (\d+) is .*", rf"\1 {FOUND}, {HIDDEN} \2"),
     (rf"{UID} was found, but didn't mute: .*\(exchange (\d+) is .*", rf"\1 {FOUND}, {UNMUTED} \2"),
     (rf"{SIGHTING}: .*(?:bytes came though no listed device was due|, which isn't listed)[;:] .*", r"stray \1\2"),

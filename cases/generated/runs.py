@@ -28,7 +28,11 @@ UIDS: Dict[str, int] = {
 }
 LIAR = uid_text(UIDS["liar"])
 HALF = 0x800000000000
-RANGES: Dict[str, Tuple[int, int]] = {"all": (0, ALL_DEVICES), "lower": (0, HALF - 1), "upper": (HALF, ALL_DEVICES)}
+# `under` and `over` leave out only the UID of all devices of a manufacturer.
+RANGES: Dict[str, Tuple[int, int]] = {
+    "all": (0, ALL_DEVICES), "lower": (0, HALF - 1), "upper": (HALF, ALL_DEVICES),
+    "under": (0, 0x1234FFFFFFFE), "over": (0x123500000000, ALL_DEVICES),
+}
 OPERATIONS = {Pid.DISC_UNIQUE_BRANCH: "branch", Pid.DISC_MUTE: "mute", Pid.DISC_UN_MUTE: "unmute"}
 # What an acknowledgement says: a control field, and maybe a binding UID.
 ACKNOWLEDGED = {"ack": "0000", "bound": "0002123400000005"}

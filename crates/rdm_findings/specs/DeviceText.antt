@@ -1,7 +1,10 @@
 -- The lines of a run about devices: those that are listed, the one that didn't mute, and the known ones that are gone.
 use Rattle.std.specs.Prelude.{ℕ, Bool, true, false, ◌&&◌, ◌||◌, not, List, [], ◌++◌, Option, Some, None, codes, decimal}
 use Rattle.std.specs.Prelude.{◌==◌, if◌then◌else◌, is_some, nat_lt}
+use Rattle.std.specs.List.{list_any}
+use Rattle.rdm_wire.specs.Uid.{is_broadcast}
 use Rattle.rdm_wire.specs.UidText.{uid_text}
+use Rattle.rdm_explain.specs.declared.exchange.Exchange.{Exchange}
 use Rattle.rdm_explain.specs.declared.rule.Rule.{Rule}
 use Rattle.rdm_explain.specs.declared.rule.Rule.TheVariants.{SilentBranches, SilentMutes, GarbledMute}
 use Rattle.rdm_explain.specs.declared.rule.Breach.{Breach}
@@ -15,29 +18,38 @@ use Rattle.rdm_findings.specs.declared.heard.RunUids.{RunUids}
 use Rattle.rdm_findings.specs.declared.mention.Mention.{Mention}
 use Rattle.rdm_findings.specs.declared.mention.RunFacts.{RunFacts}
 use Rattle.rdm_findings.specs.declared.misread.Misreads.{Misreads}
-use Rattle.rdm_findings.specs.FindingText.{exchange_name, off_advice, uid_finding}
+use Rattle.rdm_findings.specs.Ends.{is_garbled_mute}
+use Rattle.rdm_findings.specs.FindingText.{exchange_name, uid_finding}
 use Rattle.rdm_findings.specs.Forms.{finding}
 use Rattle.rdm_findings.specs.HeardUids.{in_uids}
 use Rattle.rdm_findings.specs.Mentions.{misread_in}
 use Rattle.rdm_findings.specs.Starts.{has_start, number_at}
 
--- five mutes in a row without an answer, before the last one. The flag says that the device was heard in the exchanges
--- that the log has
-abbrev pub mutes_before : Bool → List ℕ
+-- five silences in a row, before the last one. The flags say that the device was heard in the exchanges that the log
+-- has, or bytes came when it alone was asked, and that the log has all of the run. Only then it was never heard
+abbrev pub silent_before : (heard whole : Bool) → List ℕ
+silent_before heard whole =
+    if whole && not heard then
+    codes " was never heard: check its power, its cable, its UID and that RDM is on (exchange "
+    else codes " didn't answer: check its power and its cable (exchange "
+
+-- the same of five mutes in a row without an answer
+abbrev pub mutes_before : (heard : Bool) → List ℕ
 mutes_before heard =
     if heard then codes " didn't mute: take it off the line and discover again (exchange "
     else codes " didn't mute: check its power, its cable, its UID and that RDM is on (exchange "
 
--- a breach and what to do about it, before the exchange that shows it. The first flag says that the device was heard in
--- the exchanges that the log has, and the second that the log has all of the run. Only then it was never heard
-abbrev pub breach_before : (heard whole : Bool) → Rule → List ℕ
-breach_before heard whole SilentBranches =
-    if whole && not heard then
-    codes " was never heard: check its power, its cable, its UID and that RDM is on (exchange "
-    else codes " didn't answer: check its power and its cable (exchange "
-breach_before heard whole SilentMutes = mutes_before heard
-breach_before heard whole GarbledMute =
-    codes " didn't acknowledge a mute: take it off the line and discover again (exchange "
+-- the same of other bytes after a mute. If the device acknowledged a mute, another one or noise may be to blame
+abbrev pub garbled_before : (acked : Bool) → List ℕ
+garbled_before acked =
+    if acked then codes " didn't acknowledge a mute (exchange "
+    else codes " didn't acknowledge a mute: take it off the line and discover again (exchange "
+
+-- a breach and what to do about it, before the exchange that shows it
+abbrev pub breach_before : (heard acked whole : Bool) → Rule → List ℕ
+breach_before heard acked whole SilentBranches = silent_before heard whole
+breach_before heard acked whole SilentMutes = mutes_before heard
+breach_before heard acked whole GarbledMute = garbled_before acked
 
 -- and after it
 abbrev pub breach_after : Rule → List ℕ
@@ -97,10 +109,10 @@ unfound_doubt r = if r.whole then missed_text r else yet_doubt (has_start r.star
 abbrev pub before_doubt : RunFacts → Bool → List ℕ
 before_doubt r acked = if acked then codes " was found; " else unfound_doubt r
 
--- The doubt: an exchange in which its UID was asked alone, or was read, and an answer that no device should give.
--- Another one may have sent that, with its UID or without
+-- The doubt: an exchange in which its UID was asked alone, or was read, and an answer that no device was due to give
+-- there. Another one may have sent that, with its UID or without
 abbrev pub doubt_text : ℕ → List ℕ
-doubt_text number = exchange_name number ++ codes " has its UID and a bad answer, perhaps another device's"
+doubt_text number = exchange_name number ++ codes " has its UID and an answer that wasn't due, perhaps another device's"
 
 -- a device whose log doesn't show that it broke a rule; but the exchange with this number, if there is one, leaves a
 -- doubt
@@ -143,16 +155,17 @@ seen_at r misreads u =
 abbrev pub but_text : Bool → List ℕ
 but_text acked = if acked then codes " was found, but" else []
 
--- the rule that a device broke first, and where. The flag says that it was heard in the run
-abbrev pub breach_text : RunFacts → Bool → Breach → List ℕ
-breach_text r heard b =
-    breach_before heard r.whole b.rule ++ decimal (number_at r.start b.at) ++ breach_after b.rule
+-- the rule that a device broke first, and where. The flags say that it was heard in the run, and that it acknowledged a
+-- mute
+abbrev pub breach_text : RunFacts → (heard acked : Bool) → Breach → List ℕ
+breach_text r heard acked b =
+    breach_before heard acked r.whole b.rule ++ decimal (number_at r.start b.at) ++ breach_after b.rule
 
 -- Whether a device was found, and which rule it broke first, if any. The flags say that it was heard in the run, and
 -- that it acknowledged a mute. The number is that of an exchange that leaves a doubt
 abbrev pub verdict_text : RunFacts → Bool → Bool → Option ℕ → Option Breach → List ℕ
 verdict_text r heard acked see None = innocent_text r acked see
-verdict_text r heard acked see (Some b) = but_text acked ++ breach_text r heard b
+verdict_text r heard acked see (Some b) = but_text acked ++ breach_text r heard acked b
 
 -- whether a device that broke no rule was found. The flag says that it acknowledged a mute
 abbrev pub unbroken_judgement : RunFacts → Bool → Judgement
@@ -176,27 +189,50 @@ of_device r u acked see breach = record {
   exchange = device_exchange r see breach;
 }
 
+-- whether a device's text was read, its mute was acknowledged, or bytes came when it alone was asked
+abbrev pub is_noticed : RunUids → Misreads → ℕ → Bool
+is_noticed heard misreads u = in_uids heard u || is_some (misread_in misreads u)
+
 -- The finding about a listed device. The sets have the UIDs that were heard, and those that acknowledged a mute
 abbrev pub device_finding : Form → RunFacts → Misreads → RunUids → RunUids → DeviceFinding → List ℕ
 device_finding form r misreads heard acked f =
     finding form (of_device r f.uid (in_uids acked f.uid) (seen_at r misreads f.uid) f.breach)
-    (uid_text f.uid ++ verdict_text r (in_uids heard f.uid) (in_uids acked f.uid) (seen_at r misreads f.uid) f.breach)
+    (uid_text f.uid
+    ++ verdict_text r (is_noticed heard misreads f.uid) (in_uids acked f.uid) (seen_at r misreads f.uid) f.breach)
 
--- the finding about a UID that answered a branch of it alone, and then acknowledged no mute
-abbrev pub culprit_finding : Form → ℕ → List ℕ
-culprit_finding form u =
-    uid_finding form judged.Unmuted u
-    (codes " answered alone and then no mute: it left, or broke a rule; take it off the line and discover again")
+-- why a UID acknowledged no mute, and what to do. If bytes came after one, another device or noise may be to blame
+abbrev pub culprit_advice : (garbled : Bool) → List ℕ
+culprit_advice garbled =
+    if garbled then codes "a rule was broken, by it, another device or noise"
+    else codes "it left, or broke a rule; take it off the line and discover again"
+
+-- what is said of a UID that answered a branch of it alone, and then acknowledged no mute
+abbrev pub culprit_text : (garbled : Bool) → List ℕ
+culprit_text garbled = codes " answered alone and then acknowledged no mute: " ++ culprit_advice garbled
+
+-- the finding about such a UID. The flag says that bytes came after a mute of it
+abbrev pub culprit_found : Form → ℕ → (garbled : Bool) → List ℕ
+culprit_found form u garbled = uid_finding form judged.Unmuted u (culprit_text garbled)
+
+-- the same in a run with these exchanges
+abbrev pub culprit_finding : Form → List Exchange → ℕ → List ℕ
+culprit_finding form xs u = culprit_found form u (list_any (is_garbled_mute u) xs)
 
 -- The first exchange in which other bytes than its text answered a branch of u alone, unless the line about bytes that
 -- no honest line allows names u
 abbrev pub suspect_at : RunFacts → Misreads → ℕ → Option ℕ
 suspect_at r misreads u = if is_some (mentioned r.garbled u) then None else misread_at r misreads u
 
+-- what to do then: it may be noise's or another's answer, and no device has a broadcast UID
+abbrev pub suspect_advice : ℕ → List ℕ
+suspect_advice u =
+    if is_broadcast u then codes "split the line and discover each half"
+    else codes "take it off the line and discover again; if it isn't there, split the line"
+
 -- what is said of such a UID, and of the exchange with this number
 abbrev pub suspect_text : ℕ → ℕ → List ℕ
 suspect_text u number =
-    codes " alone was asked, and its answer was wrong: " ++ off_advice u
+    codes " alone was asked, and bytes came that aren't its answer: " ++ suspect_advice u
     ++ (codes " (exchange " ++ decimal number ++ codes ")")
 
 -- the finding about such a UID, if there is such an exchange

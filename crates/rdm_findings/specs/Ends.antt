@@ -87,6 +87,10 @@ lacks_acknowledgement u _ heard = false
 abbrev pub is_lost_mute : ℕ → Exchange → Bool
 is_lost_mute u e = lacks_acknowledgement u e.asked e.heard
 
+-- whether bytes came after a mute of u, and don't acknowledge it
+abbrev pub is_garbled_mute : ℕ → Exchange → Bool
+is_garbled_mute u e = is_lost_mute u e && has_bytes e.heard
+
 -- the UID, if each of these exchanges is a mute of it that wasn't acknowledged
 abbrev pub if_never_muted : List Exchange → Option ℕ → Option ℕ
 if_never_muted mutes None = None

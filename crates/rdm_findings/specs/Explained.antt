@@ -1,6 +1,6 @@
 -- What is printed for a run: the findings about exactly its exchanges.
 use Rattle.std.specs.Prelude.{◌≡◌, ℕ, Bool, ◌&&◌, ◌||◌, not, List, [], ◌∷◌, ◌++◌, Option, Some, None, flat_map, filter}
-use Rattle.std.specs.Prelude.{is_some, if◌then◌else◌, fold, length, nat_le, ◌+◌, ◌==◌}
+use Rattle.std.specs.Prelude.{is_some, if◌then◌else◌, fold, length, nat_le, take, ◌+◌, ◌==◌}
 use Rattle.std.specs.List.{position}
 use Rattle.rdm_wire.specs.Uid.{has}
 use Rattle.rdm_wire.specs.Devices.{uids_of}
@@ -9,6 +9,7 @@ use Rattle.rdm_agent.specs.declared.limits.TheConstants.{MOST_APART}
 use Rattle.rdm_agent.specs.declared.kind.Kind.{Kind}
 use Rattle.rdm_agent.specs.declared.kind.Kind.TheVariants.{Full, Incremental}
 use Rattle.rdm_explain.specs.declared.certificate.KnownFinding.{KnownFinding}
+use Rattle.rdm_explain.specs.declared.certificate.RunFinding.{RunFinding}
 use Rattle.rdm_explain.specs.declared.exchange.Exchange.{Exchange}
 use Rattle.rdm_explain.specs.declared.rule.DeviceFinding.{DeviceFinding}
 use Rattle.rdm_explain.specs.declared.sighting.Sighting.{Sighting}
@@ -24,7 +25,7 @@ use Rattle.rdm_findings.specs.declared.head.RunHead.{RunHead}
 use Rattle.rdm_findings.specs.declared.heard.RunUids.{RunUids}
 use Rattle.rdm_findings.specs.declared.mention.RunFacts.{RunFacts}
 use Rattle.rdm_findings.specs.DeviceText.{device_finding, culprit_finding, suspect_finding, gone_finding}
-use Rattle.rdm_findings.specs.Ends.{is_whole, decides_stray, unmuted_at}
+use Rattle.rdm_findings.specs.Ends.{is_complete, is_whole, decides_stray, unmuted_at}
 use Rattle.rdm_findings.specs.FindingText.{head_finding, run_gaps, quiet_text, stray_finding, garbled_finding}
 use Rattle.rdm_findings.specs.FindingText.{unless_garbled, any_broke, answered_finding}
 use Rattle.rdm_findings.specs.HeardUids.{heard_in, in_uids}
@@ -60,21 +61,31 @@ unmuted_after us found suspects [] = suspects
 unmuted_after us found suspects (e ∷ rest) =
     unmuted_after us found (with_suspect us suspects (unmuted_at found e rest)) rest
 
--- The UIDs that answered alone, and then acknowledged no mute, in a run that reports these devices, but none of the
--- list, which has the devices that are listed, or come or leave. None if an exchange failed, since nobody is to blame
--- for that
+-- the exchanges before the one that failed, if one did: nobody is to blame for what follows
+abbrev pub before_failure : Option ℕ → List Exchange → List Exchange
+before_failure None xs = xs
+before_failure (Some at) xs = take at xs
+
+-- The UIDs that answered alone, and then acknowledged no mute, before an exchange failed, in a run that reports these
+-- devices, but none of the list, which has the devices that are listed, or come or leave
 abbrev pub culprits_of : Option ℕ → List ℕ → List ℕ → List Exchange → List ℕ
-culprits_of (Some at) us reported xs = []
-culprits_of None us reported xs = unmuted_after us reported [] xs
+culprits_of failure us reported xs = unmuted_after us reported [] (before_failure failure xs)
 
 -- some UIDs, and then those that were asked alone in these exchanges, and that other bytes answered than their text
 abbrev pub misread_after : (us suspects : List ℕ) → List Exchange → List ℕ
 misread_after us suspects xs = fold (λ s e. with_suspect us s (misread_by e.asked e.heard)) suspects xs
 
--- the known UIDs that are neither in the set nor in the list; none if the log doesn't have the known ones
-abbrev pub gone_of : RunUids → List ℕ → Option (List ℕ) → List ℕ
-gone_of acked due None = []
-gone_of acked due (Some known) = filter (λ u. not (in_uids acked u || has due u)) known
+-- Those of a run that aren't on the list, before an exchange failed. None if the certificate is complete: a device with
+-- such a UID would have been found, unless it broke a rule
+abbrev pub suspects_of : RunFinding → List ℕ → List Exchange → List ℕ
+suspects_of certificate us xs =
+    if is_complete certificate then [] else misread_after us [] (before_failure certificate.failure xs)
+
+-- the known UIDs that are neither in the set nor in the lists; none if the log doesn't have the known ones
+abbrev pub gone_of : RunUids → (due suspects : List ℕ) → Option (List ℕ) → List ℕ
+gone_of acked due suspects None = []
+gone_of acked due suspects (Some known) =
+    filter (λ u. not (in_uids acked u || (has due u || has suspects u))) known
 
 -- the UIDs that a run was to mute first, if its kind is known and, for an incremental one, the known UIDs are
 abbrev pub first_of : Option Kind → Option (List ℕ) → Option (List ℕ)
@@ -91,7 +102,7 @@ ExplainsNames (Some first) xs (Some names) = ExplainsKnown first xs names
 -- The findings about these exchanges of a run: about its certificate of the devices whose mutes were acknowledged, and
 -- about each of these and each of the list `present`, but none of `passing`, which come or leave. About the UIDs
 -- that answered alone, and then acknowledged no mute; about others that were answered wrongly when they were asked
--- alone; and about each known UID that acknowledged no mute. Then about bytes that came though none of the listed
+-- alone; and about each other known UID that acknowledged no mute. Then about bytes that came though none of the listed
 -- devices, nor one of the UIDs that didn't mute, nor one of `passing` was due; and about bytes that no honest line
 -- allows, whichever devices are on it
 pub record Finds (kind : Option Kind) (known : Option (List ℕ)) (present passing : List ℕ) (xs : List Exchange)
@@ -104,8 +115,8 @@ pub record Finds (kind : Option Kind) (known : Option (List ℕ)) (present passi
   pub unmuted : f.culprits.items
       ≡ culprits_of f.certificate.failure (with_passing (uids_of f.reported) present passing) (uids_of f.reported) xs
   pub due : f.due.items ≡ with_passing (uids_of f.reported) present passing ++ f.culprits.items
-  pub misread_alone : f.suspects.items ≡ misread_after f.due.items [] xs
-  pub all_gone : uids_of_findings f.gone.items ≡ gone_of f.acked f.due.items known
+  pub misread_alone : f.suspects.items ≡ suspects_of f.certificate f.due.items xs
+  pub all_gone : uids_of_findings f.gone.items ≡ gone_of f.acked f.due.items f.suspects.items known
   pub gone_breaches : AreFirstBreaches xs f.gone.items
   pub first_stray :
       FirstStray (listed (uids_of f.reported) present passing ++ f.culprits.items) passing xs f.stray
@@ -134,16 +145,16 @@ facts_of head xs f = record {
 }
 
 -- the findings about UIDs that aren't listed
-abbrev pub others_text : Form → RunFacts → Findings → List ℕ
-others_text form r f =
-    flat_map (culprit_finding form) f.culprits.items ++ flat_map (suspect_finding form r f.misreads) f.suspects.items
+abbrev pub others_text : Form → RunFacts → List Exchange → Findings → List ℕ
+others_text form r xs f =
+    flat_map (culprit_finding form xs) f.culprits.items ++ flat_map (suspect_finding form r f.misreads) f.suspects.items
     ++ flat_map (gone_finding form r) f.gone.items
 
 -- the findings about devices
-abbrev pub devices_text : Form → RunFacts → Findings → List ℕ
-devices_text form r f =
+abbrev pub devices_text : Form → RunFacts → List Exchange → Findings → List ℕ
+devices_text form r xs f =
     flat_map (device_finding form r f.misreads f.heard f.acked) f.devices.items
-    ++ others_text form r f
+    ++ others_text form r xs f
 
 -- the findings about bytes
 abbrev pub bytes_text : Form → RunHead → List Exchange → Findings → List ℕ
@@ -170,7 +181,7 @@ run_text form head xs f =
 abbrev pub findings_text : Form → RunHead → List Exchange → Findings → List ℕ
 findings_text form head xs f =
     run_text form head xs f
-    ++ (devices_text form (facts_of head xs f) f ++ bytes_text form head xs f ++ run_end form)
+    ++ (devices_text form (facts_of head xs f) xs f ++ bytes_text form head xs f ++ run_end form)
 
 -- whether any finding is that a rule was broken. A known UID that is gone broke none
 abbrev pub is_broken : RunHead → Findings → Bool

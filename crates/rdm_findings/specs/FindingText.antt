@@ -88,7 +88,7 @@ spent_text (Some budget) = codes " (its budget of " ++ count_text budget (codes 
 
 -- what its fault says
 abbrev pub reason_text : Option ℕ → AgentFault → List ℕ
-reason_text budget (Corrupt u) = codes " (asked alone, it couldn't be read or muted)"
+reason_text budget (Corrupt u) = codes " (it alone was asked, and the answers weren't a new device's)"
 reason_text budget TooMany = codes " (more than 1,024 devices answered)"
 reason_text budget Exhausted = spent_text budget
 reason_text budget LineFailed = codes " (the line failed)"
@@ -220,15 +220,19 @@ start_gaps form f =
 abbrev pub is_greatest : ℕ → Bool
 is_greatest u = u == 281474976710655
 
--- what a sentence says before the first UID that wasn't ruled out. If that is the greatest one, all others were
+-- What a sentence says before the first UID that wasn't ruled out. If that is the greatest one, all others were. No
+-- device may have a broadcast UID, and those above it may have been ruled out
 abbrev pub uncovered_before : ℕ → List ℕ
-uncovered_before u = if is_greatest u then [] else codes "not settled: a device from "
+uncovered_before u =
+    if is_greatest u then []
+    else (if is_broadcast u then codes "not settled: " else codes "not settled: a device from ")
 
 -- and after it
 abbrev pub uncovered_after : ℕ → List ℕ
 uncovered_after u =
     if is_greatest u then codes " alone wasn't ruled out, and no device may have it"
-    else codes " up may be missing"
+    else (if is_broadcast u then codes " wasn't ruled out, and perhaps UIDs above it; no device may have this one"
+    else codes " up may be missing")
 
 -- the part about the first UID that wasn't ruled out, if there is one
 abbrev pub uncovered_gap : Form → Option ℕ → List ℕ
@@ -317,16 +321,15 @@ sign_text asked (signs.Other u) = codes "; they read as " ++ uid_text u ++ codes
 sign_text asked signs.Unread = []
 
 -- what to do about bytes. The flag says that they show that a rule was broken, unless their sender comes or leaves.
--- Without it a device that the log doesn't show may have sent them. In both cases it need not be the one that they
--- read as
+-- Without it another device may have sent them. In both cases it need not be the one that they read as
 abbrev pub advice_text : Bool → Sign → List ℕ
 advice_text true (signs.Listed u) = codes ": take it off the line and discover again"
-advice_text false (signs.Listed u) = codes "; or a device that the log doesn't show sent them"
+advice_text false (signs.Listed u) = codes "; or another device sent them"
 advice_text true (signs.Other u) = codes "; a rule was broken: name it by --present, if it is there"
 advice_text false (signs.Other u) = codes ": name it by --present, if it is there"
 advice_text true signs.Unread =
     codes "; a rule was broken: look for noise, a device that isn't listed, or one that should be silent there"
-advice_text false signs.Unread = codes "; they may be noise, or those of a device that the log doesn't show"
+advice_text false signs.Unread = codes "; they may be noise, or those of a device that isn't listed"
 
 -- about stray bytes that came after this
 abbrev pub stray_text : Bool → Asked → Sign → List ℕ

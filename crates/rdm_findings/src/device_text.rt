@@ -1,13 +1,14 @@
 //! What is printed about devices.
 ghost use Rattle.std.specs.Prelude.{◌≡◌, ◌++◌, false, OnOk, codes, decimal, flat_map};
-ghost use Rattle.rdm_findings.specs.DeviceText.{mutes_before, breach_before, breach_after};
+ghost use Rattle.rdm_findings.specs.DeviceText.{silent_before, mutes_before, garbled_before};
+ghost use Rattle.rdm_findings.specs.DeviceText.{breach_before, breach_after};
 ghost use Rattle.rdm_findings.specs.DeviceText.{followed_text, until_text, over_text};
 ghost use Rattle.rdm_findings.specs.DeviceText.{yet_text, yet_doubt, found_text, missed_text, calm_text};
 ghost use Rattle.rdm_findings.specs.DeviceText.{unbroken_text, unfound_doubt, before_doubt, doubt_text};
 ghost use Rattle.rdm_findings.specs.DeviceText.{innocent_text, verdict_text};
 ghost use Rattle.rdm_findings.specs.DeviceText.{but_text, breach_text};
 ghost use Rattle.rdm_findings.specs.DeviceText.{device_finding, device_exchange, device_judgement, of_device};
-ghost use Rattle.rdm_findings.specs.DeviceText.{unbroken_judgement};
+ghost use Rattle.rdm_findings.specs.DeviceText.{unbroken_judgement, is_noticed};
 ghost use Rattle.rdm_findings.specs.Forms.{finding};
 ghost use Rattle.rdm_findings.specs.Starts.{has_start};
 ghost use Rattle.rdm_wire.specs.UidText.{uid_text};
@@ -54,7 +55,7 @@ fn write_device(
     ensures { OnOk result (text.new.items ≡ text.old.items
         ++ device_finding form facts.now misreads.now heard.now acked.now found.now) }
 {
-    let was_heard = heard.contains(found.uid);
+    let was_heard = is_noticed(heard, misreads, found.uid);
     let was_acked = acked.contains(found.uid);
     let see = facts.seen_at(misreads, found.uid);
     write_judged(
@@ -67,6 +68,13 @@ fn write_device(
         see,
         found.breach,
     )
+}
+
+// Whether its text was read, its mute was acknowledged, or bytes came when it alone was asked.
+fn is_noticed(heard: &RunUids, misreads: &Misreads, uid: Uid) -> bool
+    ensures { result ≡ is_noticed heard.now misreads.now uid }
+{
+    heard.contains(uid) || misreads.first(uid).is_some()
 }
 
 fn write_judged(
@@ -157,10 +165,10 @@ fn write_broken(
     breach: Breach,
 ) -> Result<(), AllocError>
     ensures { OnOk result (text.new.items ≡ text.old.items
-        ++ (but_text acked ++ breach_text facts.now heard breach)) }
+        ++ (but_text acked ++ breach_text facts.now heard acked breach)) }
 {
     write(text, but_text(acked))?;
-    write_breach(text, facts, heard, breach)
+    write_breach(text, facts, heard, acked, breach)
 }
 
 fn but_text(acked: bool) -> &'static str
@@ -173,11 +181,12 @@ fn write_breach(
     text: &mut Vec<u8>,
     facts: &RunFacts,
     heard: bool,
+    acked: bool,
     breach: Breach,
 ) -> Result<(), AllocError>
-    ensures { OnOk result (text.new.items ≡ text.old.items ++ breach_text facts.now heard breach) }
+    ensures { OnOk result (text.new.items ≡ text.old.items ++ breach_text facts.now heard acked breach) }
 {
-    write(text, breach_before(heard, facts.whole, breach.rule))?;
+    write(text, breach_before(heard, acked, facts.whole, breach.rule))?;
     write_number(text, facts.start.number(breach.at))?;
     write(text, breach_after(breach.rule))
 }
@@ -243,7 +252,7 @@ fn write_doubt(text: &mut Vec<u8>, number: u64) -> Result<(), AllocError>
     write_exchange(text, number)?;
     write(
         text,
-        " has its UID and a bad answer, perhaps another device's",
+        " has its UID and an answer that wasn't due, perhaps another device's",
     )
 }
 
@@ -365,21 +374,30 @@ fn write_until_failure(text: &mut Vec<u8>, number: u64) -> Result<(), AllocError
     write(text, " failed")
 }
 
-fn breach_before(heard: bool, whole: bool, rule: Rule) -> &'static str
-    ensures { result.now ≡ breach_before heard whole rule }
+fn breach_before(heard: bool, acked: bool, whole: bool, rule: Rule) -> &'static str
+    ensures { result.now ≡ breach_before heard acked whole rule }
 {
     match rule {
         Rule::SilentBranches => silent_before(heard, whole),
         Rule::SilentMutes => mutes_before(heard),
-        Rule::GarbledMute => {
-            " didn't acknowledge a mute: take it off the line and discover again (exchange "
-        }
+        Rule::GarbledMute => garbled_before(acked),
+    }
+}
+
+// If it acknowledged a mute, another one or noise may be to blame.
+fn garbled_before(acked: bool) -> &'static str
+    ensures { result.now ≡ garbled_before acked }
+{
+    if acked {
+        " didn't acknowledge a mute (exchange "
+    } else {
+        " didn't acknowledge a mute: take it off the line and discover again (exchange "
     }
 }
 
 // Only in a run of which the log has all a device was never heard.
 fn silent_before(heard: bool, whole: bool) -> &'static str
-    ensures { result.now ≡ breach_before heard whole Rule.SilentBranches }
+    ensures { result.now ≡ silent_before heard whole }
 {
     if whole && !heard {
         " was never heard: check its power, its cable, its UID and that RDM is on (exchange "

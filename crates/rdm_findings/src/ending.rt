@@ -5,12 +5,12 @@ ghost use Rattle.rdm_wire.specs.Noisy.{has_bytes as has_bytes_seen};
 ghost use Rattle.rdm_explain.specs.Exchanges.{heard_of, seen_all, seen_of};
 ghost use Rattle.rdm_agent.specs.Cause.{answered_again, answers_in_a_row};
 ghost use Rattle.rdm_agent.specs.Run.{is_branch};
-ghost use Rattle.std.specs.List.{list_all};
+ghost use Rattle.std.specs.List.{list_all, list_any};
 ghost use Rattle.rdm_findings.specs.Ends.{is_complete, is_known_complete, shows_new, new_alone, wrong_alone};
 ghost use Rattle.rdm_findings.specs.Ends.{new_alone_in, wrong_alone_in, from_end, last_of, is_lost_mute};
 ghost use Rattle.rdm_findings.specs.Ends.{lacks_acknowledgement, never_muted, unmuted_at, corrupt_uid, corrupt_end};
 ghost use Rattle.rdm_findings.specs.Ends.{as_too_many, is_spent, as_exhausted, first_fault, shown_fault, with_fault};
-ghost use Rattle.rdm_findings.specs.Ends.{are_enough, if_enough};
+ghost use Rattle.rdm_findings.specs.Ends.{are_enough, if_enough, is_garbled_mute};
 ghost use Rattle.rdm_findings.specs.Ends.{shown_end, end_of, shows_end, is_over, is_whole, decides_stray, has_bytes};
 ghost use Rattle.rdm_findings.specs.Ends.{is_own, lacks_unmute, has_branch, loses_names, is_lost};
 
@@ -334,6 +334,24 @@ fn are_lost_mutes(uid: Uid, exchanges: &[Exchange]) -> bool
         }
     }
     true
+}
+
+/// Whether bytes came after a mute of this UID, and didn't acknowledge it.
+pub(crate) fn has_garbled_mute(uid: Uid, exchanges: &[Exchange]) -> bool
+    ensures { result ≡ list_any (is_garbled_mute uid) exchanges.now }
+{
+    for exchange in exchanges {
+        if is_garbled_mute(uid, exchange) {
+            return true;
+        }
+    }
+    false
+}
+
+fn is_garbled_mute(uid: Uid, exchange: &Exchange) -> bool
+    ensures { result ≡ is_garbled_mute uid exchange.now }
+{
+    lacks_acknowledgement(uid, exchange.asked, &exchange.heard) && has_bytes(&exchange.heard)
 }
 
 // Whether this is the mute of a UID, and no acknowledgement came.

@@ -19,7 +19,7 @@ use crate::gone_text::{write_culprits, write_gone, write_suspects};
 use crate::head::RunHead;
 use crate::head_text::write_head;
 use crate::heard::{RunUids, acknowledged_uids, heard_uids};
-use crate::listing::{culprits_of, gone_of, listed, misread_uids, with_passing};
+use crate::listing::{culprits_of, gone_of, listed, suspects_of, with_passing};
 use crate::mention::{RunFacts, garbled_mention, stray_mention};
 use crate::misread::Misreads;
 use crate::run_json::{write_before_run, write_run_end};
@@ -57,7 +57,7 @@ struct Findings {
     due: Vec<Uid>,
     // Others that were answered wrongly when they were asked alone.
     suspects: Vec<Uid>,
-    // The known UIDs that acknowledged no mute.
+    // Other known UIDs that acknowledged no mute.
     gone: Vec<DeviceFinding>,
     stray: Option<Sighting>,
     garbled: Option<Sighting>,
@@ -126,7 +126,7 @@ fn find(
     if due.extend_from_slice(&culprits).is_err() {
         return Err(NoMemory);
     }
-    let Ok(suspects) = misread_uids(alloc, &due, exchanges) else {
+    let Ok(suspects) = suspects_of(alloc, &certificate, &due, exchanges) else {
         return Err(NoMemory);
     };
     let acked = acknowledged_uids(alloc, exchanges)?;
@@ -135,8 +135,8 @@ fn find(
         names: names(alloc, kind, known, exchanges)?,
         devices: judged.devices,
         culprits,
+        gone: gone(alloc, &acked, &due, &suspects, known, exchanges)?,
         suspects,
-        gone: gone(alloc, &acked, &due, known, exchanges)?,
         stray: judged.stray,
         garbled: first_garbled(alloc, exchanges)?,
         misreads: Misreads::of(alloc, exchanges)?,
@@ -168,19 +168,20 @@ fn judge_listed(
     judge(alloc, &uids, many, passing, exchanges)
 }
 
-// The known UIDs that acknowledged no mute, and what they lack.
+// The known UIDs that acknowledged no mute, and are in neither list, and what they lack.
 fn gone(
     alloc: Global,
     acked: &RunUids,
     due: &[Uid],
+    suspects: &[Uid],
     known: Option<&[Uid]>,
     exchanges: &[Exchange],
 ) -> Result<Vec<DeviceFinding>, NoMemory>
     ensures all { IfOk result (λ gone. uids_of_findings gone.items
-        ≡ gone_of acked.now due.now (option_copied known.entry)) }
+        ≡ gone_of acked.now due.now suspects.now (option_copied known.entry)) }
     ensures first { IfOk result (λ gone. AreFirstBreaches exchanges.now gone.items) }
 {
-    let Ok(uids) = gone_of(alloc, acked, due, known) else {
+    let Ok(uids) = gone_of(alloc, acked, due, suspects, known) else {
         return Err(NoMemory);
     };
     if uids.is_empty() {
@@ -297,10 +298,11 @@ fn write_others(
     found: &Findings,
 ) -> Result<(), AllocError>
     ensures { OnOk result (text.new.items ≡ text.old.items
-        ++ (devices_text form (facts_of head.now exchanges.now found.now) found.now
+        ++ (devices_text form (facts_of head.now exchanges.now found.now) exchanges.now found.now
         ++ bytes_text form head.now exchanges.now found.now ++ run_end form)) }
 {
-    write_judged(text, form, &facts_of(head, exchanges, found), found)?;
+    let facts = facts_of(head, exchanges, found);
+    write_judged(text, form, &facts, exchanges, found)?;
     write_bytes(text, form, head, exchanges, found)?;
     write_run_end(text, form)
 }
@@ -386,9 +388,11 @@ fn write_judged(
     text: &mut Vec<u8>,
     form: Form,
     facts: &RunFacts,
+    exchanges: &[Exchange],
     found: &Findings,
 ) -> Result<(), AllocError>
-    ensures { OnOk result (text.new.items ≡ text.old.items ++ devices_text form facts.now found.now) }
+    ensures { OnOk result (text.new.items ≡ text.old.items
+        ++ devices_text form facts.now exchanges.now found.now) }
 {
     write_devices(
         text,
@@ -399,7 +403,7 @@ fn write_judged(
         &found.acked,
         &found.devices,
     )?;
-    write_unlisted(text, form, facts, found)
+    write_unlisted(text, form, facts, exchanges, found)
 }
 
 // Writes the findings about UIDs that aren't listed.
@@ -407,11 +411,13 @@ fn write_unlisted(
     text: &mut Vec<u8>,
     form: Form,
     facts: &RunFacts,
+    exchanges: &[Exchange],
     found: &Findings,
 ) -> Result<(), AllocError>
-    ensures { OnOk result (text.new.items ≡ text.old.items ++ others_text form facts.now found.now) }
+    ensures { OnOk result (text.new.items ≡ text.old.items
+        ++ others_text form facts.now exchanges.now found.now) }
 {
-    write_culprits(text, form, &found.culprits)?;
+    write_culprits(text, form, exchanges, &found.culprits)?;
     write_suspects(text, form, facts, &found.misreads, &found.suspects)?;
     write_gone(text, form, facts, &found.gone)
 }

@@ -162,6 +162,8 @@ fn uncovered_before(uid: Uid) -> &'static str
 {
     if is_greatest(uid) {
         ""
+    } else if uid.is_broadcast() {
+        "not settled: "
     } else {
         "not settled: a device from "
     }
@@ -172,6 +174,8 @@ fn uncovered_after(uid: Uid) -> &'static str
 {
     if is_greatest(uid) {
         " alone wasn't ruled out, and no device may have it"
+    } else if uid.is_broadcast() {
+        " wasn't ruled out, and perhaps UIDs above it; no device may have this one"
     } else {
         " up may be missing"
     }

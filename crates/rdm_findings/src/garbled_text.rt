@@ -136,8 +136,8 @@ fn same_why(uid: Uid) -> &'static str
     }
 }
 
-/// What to do about a UID.
-pub(crate) fn off_advice(uid: Uid) -> &'static str
+// What to do about a UID.
+fn off_advice(uid: Uid) -> &'static str
     ensures { result.now ≡ off_advice uid }
 {
     if uid.is_broadcast() {

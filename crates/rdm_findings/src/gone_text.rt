@@ -2,42 +2,69 @@
 //! were answered wrongly when they were asked alone.
 ghost use Rattle.std.specs.Prelude.{◌≡◌, ◌++◌, OnOk, Some, codes, decimal, flat_map};
 ghost use Rattle.rdm_wire.specs.UidText.{uid_text};
-ghost use Rattle.rdm_findings.specs.DeviceText.{culprit_finding, gone_before, gone_after, gone_finding, of_gone};
-ghost use Rattle.rdm_findings.specs.DeviceText.{suspect_text, suspect_found, suspect_finding};
+ghost use Rattle.rdm_findings.specs.DeviceText.{culprit_advice, culprit_text, culprit_found, culprit_finding};
+ghost use Rattle.rdm_findings.specs.DeviceText.{gone_before, gone_after, gone_finding, of_gone};
+ghost use Rattle.rdm_findings.specs.DeviceText.{suspect_advice, suspect_text, suspect_found, suspect_finding};
 ghost use Rattle.rdm_findings.specs.Forms.{finding};
 ghost use Rattle.rdm_findings.specs.Starts.{number_at};
 
+use crate::ending::has_garbled_mute;
 use crate::form::{About, Form, Judgement, begin, end};
-use crate::garbled_text::off_advice;
 use crate::head::Start;
 use crate::mention::RunFacts;
 use crate::misread::Misreads;
 use crate::writing::{write, write_number, write_uid, write_uid_finding};
-use rdm_explain::{Breach, DeviceFinding, Rule};
+use rdm_explain::{Breach, DeviceFinding, Exchange, Rule};
 use rdm_wire::Uid;
 use std::alloc::AllocError;
-
-const CULPRIT: &str =
-    " answered alone and then no mute: it left, or broke a rule; take it off the line and discover again";
 
 /// Writes a finding about each UID that answered alone, and then acknowledged no mute.
 pub(crate) fn write_culprits(
     text: &mut Vec<u8>,
     form: Form,
+    exchanges: &[Exchange],
     culprits: &[Uid],
 ) -> Result<(), AllocError>
-    ensures { OnOk result (text.new.items ≡ text.old.items ++ flat_map (culprit_finding form) culprits.now) }
+    ensures { OnOk result (text.new.items ≡ text.old.items
+        ++ flat_map (culprit_finding form exchanges.now) culprits.now) }
 {
     'culprits: for uid in culprits {
-        write_culprit(text, form, *uid)?;
+        write_culprit(text, form, *uid, has_garbled_mute(*uid, exchanges))?;
     }
     Ok(())
 }
 
-fn write_culprit(text: &mut Vec<u8>, form: Form, uid: Uid) -> Result<(), AllocError>
-    ensures { OnOk result (text.new.items ≡ text.old.items ++ culprit_finding form uid) }
+fn write_culprit(text: &mut Vec<u8>, form: Form, uid: Uid, garbled: bool) -> Result<(), AllocError>
+    ensures { OnOk result (text.new.items ≡ text.old.items ++ culprit_found form uid garbled) }
 {
-    write_uid_finding(text, form, Judgement::Unmuted, uid, CULPRIT)
+    begin(text, form, &About::uid(Judgement::Unmuted, uid))?;
+    write_uid(text, uid)?;
+    write_ignoring(text, garbled)?;
+    end(text, form)
+}
+
+// That it acknowledged no mute, and why.
+fn write_ignoring(text: &mut Vec<u8>, garbled: bool) -> Result<(), AllocError>
+    ensures { OnOk result (text.new.items ≡ text.old.items ++ culprit_text garbled) }
+{
+    write(text, " answered alone and then acknowledged no mute: ")?;
+    write_advice(text, garbled)
+}
+
+fn write_advice(text: &mut Vec<u8>, garbled: bool) -> Result<(), AllocError>
+    ensures { OnOk result (text.new.items ≡ text.old.items ++ culprit_advice garbled) }
+{
+    write(text, culprit_advice(garbled))
+}
+
+fn culprit_advice(garbled: bool) -> &'static str
+    ensures { result.now ≡ culprit_advice garbled }
+{
+    if garbled {
+        "a rule was broken, by it, another device or noise"
+    } else {
+        "it left, or broke a rule; take it off the line and discover again"
+    }
 }
 
 /// Writes a finding about each UID that was answered wrongly when it was asked alone, unless another line names it.
@@ -88,9 +115,22 @@ fn write_suspected(text: &mut Vec<u8>, form: Form, uid: Uid, number: u64) -> Res
 fn write_wrong(text: &mut Vec<u8>, uid: Uid, number: u64) -> Result<(), AllocError>
     ensures { OnOk result (text.new.items ≡ text.old.items ++ suspect_text uid number) }
 {
-    write(text, " alone was asked, and its answer was wrong: ")?;
-    write(text, off_advice(uid))?;
+    write(
+        text,
+        " alone was asked, and bytes came that aren't its answer: ",
+    )?;
+    write(text, suspect_advice(uid))?;
     write_place(text, number)
+}
+
+fn suspect_advice(uid: Uid) -> &'static str
+    ensures { result.now ≡ suspect_advice uid }
+{
+    if uid.is_broadcast() {
+        "split the line and discover each half"
+    } else {
+        "take it off the line and discover again; if it isn't there, split the line"
+    }
 }
 
 fn write_place(text: &mut Vec<u8>, number: u64) -> Result<(), AllocError>

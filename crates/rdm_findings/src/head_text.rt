@@ -270,7 +270,10 @@ fn write_reason(
     ensures { OnOk result (text.new.items ≡ text.old.items ++ reason_text budget fault.now) }
 {
     match fault {
-        AgentFault::Corrupt(_) => write(text, " (asked alone, it couldn't be read or muted)"),
+        AgentFault::Corrupt(_) => write(
+            text,
+            " (it alone was asked, and the answers weren't a new device's)",
+        ),
         AgentFault::TooMany => write(text, " (more than 1,024 devices answered)"),
         AgentFault::Exhausted => write_spent(text, budget),
         AgentFault::LineFailed => write(text, " (the line failed)"),

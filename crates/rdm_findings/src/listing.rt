@@ -3,13 +3,13 @@ ghost use Rattle.std.specs.Prelude.{◌≡◌, ◌++◌, [], Some, IfOk, OnOk, o
 ghost use Rattle.rdm_wire.specs.Uid.{has};
 ghost use Rattle.rdm_wire.specs.Devices.{uids_of};
 ghost use Rattle.rdm_findings.specs.Explained.{listed, staying, with_others, culprits_of, gone_of};
-ghost use Rattle.rdm_findings.specs.Explained.{with_suspect, unmuted_after, misread_after};
+ghost use Rattle.rdm_findings.specs.Explained.{before_failure, with_suspect, unmuted_after, misread_after, suspects_of};
 
-use crate::ending::unmuted_at;
+use crate::ending::{is_complete, unmuted_at};
 use crate::heard::RunUids;
 use crate::misread::misread;
 use rdm_agent::MOST_APART;
-use rdm_explain::Exchange;
+use rdm_explain::{Exchange, RunFinding};
 use rdm_wire::{DeviceSet, Uid};
 use std::alloc::{AllocError, Global};
 
@@ -65,7 +65,7 @@ pub(crate) fn with_passing(
     Ok(due)
 }
 
-/// The UIDs that answered alone, and then acknowledged no mute, but none of the list; none if an exchange failed.
+/// The UIDs that answered alone, and then acknowledged no mute, before an exchange failed, but none of the list.
 pub(crate) fn culprits_of(
     alloc: Global,
     failure: Option<usize>,
@@ -75,9 +75,16 @@ pub(crate) fn culprits_of(
 ) -> Result<Vec<Uid>, AllocError>
     ensures { IfOk result (λ v. v.items ≡ culprits_of failure uids.now (uids_of reported.now) exchanges.now) }
 {
+    unmuted(alloc, uids, reported, before_failure(failure, exchanges))
+}
+
+// The exchanges before the one that failed, if one did.
+fn before_failure(failure: Option<usize>, exchanges: &[Exchange]) -> &[Exchange]
+    ensures { result.now ≡ before_failure failure exchanges.now }
+{
     match failure {
-        Some(_) => Ok(Vec::new(alloc)),
-        None => unmuted(alloc, uids, reported, exchanges),
+        Some(at) if at < exchanges.len() => &exchanges[..at],
+        _ => exchanges,
     }
 }
 
@@ -97,12 +104,24 @@ fn unmuted(
     Ok(suspects)
 }
 
-/// The UIDs that were asked alone, and that other bytes answered than their text, but none of the list.
-pub(crate) fn misread_uids(
+/// The UIDs that were asked alone, and that other bytes answered than their text, before an exchange failed, but none
+/// of the list. None in a run whose certificate is complete.
+pub(crate) fn suspects_of(
     alloc: Global,
+    certificate: &RunFinding,
     uids: &[Uid],
     exchanges: &[Exchange],
 ) -> Result<Vec<Uid>, AllocError>
+    ensures { IfOk result (λ v. v.items ≡ suspects_of certificate.now uids.now exchanges.now) }
+{
+    if is_complete(certificate) {
+        Ok(Vec::new(alloc))
+    } else {
+        misread_uids(alloc, uids, before_failure(certificate.failure, exchanges))
+    }
+}
+
+fn misread_uids(alloc: Global, uids: &[Uid], exchanges: &[Exchange]) -> Result<Vec<Uid>, AllocError>
     ensures { IfOk result (λ v. v.items ≡ misread_after uids.now [] exchanges.now) }
 {
     let mut suspects = Vec::new(alloc);
@@ -132,28 +151,35 @@ fn add_new(suspects: &mut Vec<Uid>, uids: &[Uid], uid: Uid) -> Result<(), AllocE
     Ok(())
 }
 
-/// The known UIDs that acknowledged no mute and aren't due; none if the log doesn't have the known ones.
+/// The known UIDs that acknowledged no mute, and are in neither list; none if the log doesn't have the known ones.
 pub(crate) fn gone_of(
     alloc: Global,
     acked: &RunUids,
     due: &[Uid],
+    suspects: &[Uid],
     known: Option<&[Uid]>,
 ) -> Result<Vec<Uid>, AllocError>
-    ensures { IfOk result (λ v. v.items ≡ gone_of acked.now due.now (option_copied known.entry)) }
+    ensures { IfOk result (λ v. v.items ≡ gone_of acked.now due.now suspects.now (option_copied known.entry)) }
 {
     match known {
-        Some(known) => gone(alloc, acked, due, known),
+        Some(known) => gone(alloc, acked, due, suspects, known),
         None => Ok(Vec::new(alloc)),
     }
 }
 
-// The known UIDs that acknowledged no mute and aren't due.
-fn gone(alloc: Global, acked: &RunUids, due: &[Uid], known: &[Uid]) -> Result<Vec<Uid>, AllocError>
-    ensures { IfOk result (λ v. v.items ≡ gone_of acked.now due.now (Some known.now)) }
+// The known UIDs that acknowledged no mute, and are in neither list.
+fn gone(
+    alloc: Global,
+    acked: &RunUids,
+    due: &[Uid],
+    suspects: &[Uid],
+    known: &[Uid],
+) -> Result<Vec<Uid>, AllocError>
+    ensures { IfOk result (λ v. v.items ≡ gone_of acked.now due.now suspects.now (Some known.now)) }
 {
     let mut gone = Vec::new(alloc);
     'known: for uid in known {
-        if !(acked.contains(*uid) || has(due, *uid)) {
+        if !(acked.contains(*uid) || (has(due, *uid) || has(suspects, *uid))) {
             gone.push(*uid)?;
         }
     }

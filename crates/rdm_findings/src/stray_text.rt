@@ -116,14 +116,13 @@ fn advice_text(decided: bool, sign: &Sign) -> &'static str
 {
     match (sign, decided) {
         (Sign::Listed(_), true) => ": take it off the line and discover again",
-        (Sign::Listed(_), false) => "; or a device that the log doesn't show sent them",
+        (Sign::Listed(_), false) => "; or another device sent them",
         (Sign::Other(_), true) => "; a rule was broken: name it by --present, if it is there",
         (Sign::Other(_), false) => ": name it by --present, if it is there",
         (Sign::Unread, true) => {
             "; a rule was broken: look for noise, a device that isn't listed, or one that should be silent there"
         }
-        (Sign::Unread, false) =>
-            "; they may be noise, or those of a device that the log doesn't show",
+        (Sign::Unread, false) => "; they may be noise, or those of a device that isn't listed",
     }
 }
 

@@ -7,7 +7,7 @@ from typing import Any, Dict
 from common import TestCase
 from page_logs import document, finding
 from wurstlinen.front import page_findings
-from wurstlinen.lines.uids import uid_text
+from wurstlinen.lines.uids import parse_uid, uid_text
 
 LEFT, RIGHT, SILENT = "1234:00000001", "1234:00000002", "1234:00000009"
 
@@ -43,6 +43,17 @@ class Findings(TestCase):
             found = page_findings.findings_in(document([{**self.run_with(judgement), "findings": [
                 finding(judgement, said[0]), finding("found", said[1])]}]))
             self.assertEqual([[each.text for each in found.all], list(found.lines())], [said, said])
+
+    def test_bytes_of_nobody_are_no_devices(self) -> None:
+        everyone, bytes_of = "ffff:ffffffff", (lambda uid: finding("garbled", "bytes", uid=uid, exchange=2))
+        stray, silent = finding("stray", "bytes", uid=RIGHT, exchange=2), finding("broke", "silent", uid=RIGHT)
+        for judgement, told, wanted in (
+                ("incomplete", bytes_of(SILENT), SILENT), ("incomplete", bytes_of(everyone), None),
+                ("complete", bytes_of(SILENT), None), ("complete", bytes_of(LEFT), LEFT),
+                ("incomplete", stray, None), ("complete", silent, RIGHT)):
+            found = page_findings.findings_in(document([self.run_with(judgement, told)]))
+            self.assertEqual([(uid if uid is None else uid_text(uid), each.text)
+                              for uid, each in found.of_uids({parse_uid(LEFT)})], [(wanted, told["sentence"])])
 
     def test_who_is_missing_breaks_no_rule(self) -> None:
         lost = {**finding("broke", "was never heard", uid=SILENT, exchange=2), "found": False}

@@ -7,9 +7,9 @@ from __future__ import annotations
 import enum
 import json
 from dataclasses import dataclass
-from typing import Any, Dict, Iterator, List, Optional, Sequence
+from typing import AbstractSet, Any, Dict, Iterator, List, Optional, Sequence, Tuple
 
-from ..lines.uids import parse_uid
+from ..lines.uids import is_broadcast, parse_uid
 
 NO_FAULT = "no fault"
 NO_RUN = "no run"
@@ -39,7 +39,9 @@ OUTCOMES = {
 }
 BROKEN, UNBROKEN, NO_DISCOVERY = "A rule was broken.", "No broken rule was seen.", "No discovery."
 # The judgements by which a rule was broken, whichever devices are there; and the one on a listed device.
-BREAKS, BROKE = ("stray", "unmuted", "garbled"), "broke"
+BREAKS, BROKE, GARBLED = ("stray", "unmuted", "garbled"), "broke", "garbled"
+# The judgements on bytes that read as a device's, which need not have sent them.
+STRAY = ("stray", "unexplained")
 NOTHING_ELSE = "nothing else can be on this line if it is honest"
 COMPLETE = f"{{}} found; {NOTHING_ELSE}."
 ALL_COMPLETE = f"The last of {{}} discoveries: {{}} found; {NOTHING_ELSE}."
@@ -85,6 +87,20 @@ class Findings:
             yield finding.text
         if self.fault is not None:
             yield f"fault: {self.fault}"
+
+    def of_uids(self, expected: AbstractSet[int]) -> Iterator[Tuple[Optional[int], Finding]]:
+        """The findings but the first of each run, each with the UID whose device it is about, if there is one.
+
+        No device has a broadcast UID. After a complete discovery, bytes after a UID that isn't expected are no device's.
+        """
+        is_complete = all(run.outcome is Outcome.COMPLETE for run in self.runs)
+        for each in self.all:
+            uid = None if each.judgement in STRAY else each.uid
+            is_noise = is_complete and each.judgement == GARBLED and uid not in expected
+            if uid is not None and (is_noise or is_broadcast(uid)):
+                uid = None
+            if not each.is_head:
+                yield uid, each
 
     def verdict(self) -> List[str]:
         """What they say in all, the worst first."""

@@ -21,7 +21,7 @@ from ..front.work import Work
 from ..line import LineFailed
 from ..lines.numbers import CommandClass, ResponseType
 from ..lines.packets import decode_packet, is_answer
-from ..lines.uids import is_broadcast, uid_text
+from ..lines.uids import uid_text
 from ..parameters import STANDARD
 from ..shared.client import SharedClient
 from ..shared.words import FRAMES, Keys
@@ -33,9 +33,9 @@ from .rig import Rig
 KEY = "discovery"
 # More UIDs can't be named to the proved program.
 MOST_EXPECTED = 1024
-# The judgements on devices that did all as they should, on those that broke a rule, if only by silence, on those that
-# alone sent something else than their text, and on bytes that read as a device's, which need not have sent them.
-GOOD, BROKE, GARBLED, STRAY = "found", "broke", "garbled", ("stray", "unexplained")
+# The judgements on devices that did all as they should, on those that broke a rule, if only by silence, and on those
+# that were asked alone when bytes came that weren't their text.
+GOOD, BROKE, GARBLED = "found", "broke", "garbled"
 MOST_REQUESTS = 100
 # How often it is asked who is connected, and how long a part of that is waited for something to come.
 LOOK_SECONDS = 1.0
@@ -130,8 +130,8 @@ def findings_of(log: Sequence[str], expected: Sequence[Uid], found: Set[Uid]
             raise NoFindings(said.fault)
     except (OSError, NoFindings) as fault:
         return None, {}, {"others": [f"why a fixture is missing can't be said: {fault}"]}
-    about = [(None if each.uid is None or each.judgement in STRAY or is_broadcast(each.uid)
-              else Uid.from_number(each.uid), each) for each in said.all if not each.is_head]
+    about = [(None if number is None else Uid.from_number(number), each)
+             for number, each in said.of_uids({uid.number for uid in expected})]
     reasons = {uid: each.text.removeprefix(f"{uid} ") for uid, each in about if uid is not None}
     good = {uid for uid, each in about if each.judgement == GOOD}
     broken = {uid for uid, each in about if each.judgement == GARBLED or (each.judgement == BROKE and uid in found)}

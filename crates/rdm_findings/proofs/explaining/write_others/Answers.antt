@@ -8,9 +8,9 @@ use Rattle.rdm_findings.proofs.explaining.write_others.Goals as goal
 pub returns : goal.returns
 returns c =
     subst (λ (facts : RunFacts). OnOk c.write_run_end.result (c.write_run_end.new.text.items ≡ c.args.text.now.items
-    ++ (devices_text c.args.form facts c.args.found.now
+    ++ (devices_text c.args.form facts c.args.exchanges.now c.args.found.now
     ++ bytes_text c.args.form c.args.head.now c.args.exchanges.now c.args.found.now ++ run_end c.args.form)))
-    c.facts_of.ensures
+    c.facts_of-facts.ensures
     (three_written c.write_run_end.result c.args.text.now.items c.write_judged.new.text.items
     c.write_bytes.new.text.items c.write_run_end.new.text.items _ _ _ c.in_ok-write_judged.ensures
     c.in_ok-write_bytes.ensures c.write_run_end.ensures)
