@@ -99,6 +99,77 @@ class Clear(BrowserTestCase):
             rig.gone.add(rig.fixtures[2].uid)
             web.call("discover")
             seen.until("document.querySelector('.sensors')?.textContent === 'Before it was missing: Head 41 °C'")
+            # It can't answer, so it isn't offered to ask it.
+            seen.until("[...document.querySelectorAll('main button')].some((each) => "
+                       "each.textContent === 'Read all again' && each.disabled)")
+
+    @at_each_size
+    def test_fixtures_while_a_discovery_runs(self, size: Tuple[int, int]) -> None:
+        with opened(size) as (seen, web, rig):
+            count = "document.querySelector('.count')?.textContent"
+            seen.until(f"{count} === '5 fixtures'")
+            rig.delay = 0.02
+            web.call("discover")
+            seen.until(f"{count} === 'a discovery runs'")
+            rig.delay = 0.0
+            seen.until(f"{count} === '5 fixtures'")
+
+    def test_a_run_that_has_ended_isnt_so_far(self) -> None:
+        with opened(DESK, "discovery") as (seen, web, rig):
+            seen.until("document.querySelector('.result')?.textContent.startsWith('5 fixtures found with')")
+            seen.page.value("""new MutationObserver(() => document.querySelector(".result").textContent
+                && (window.both ??= []).push(document.querySelector("main > p[role=status]").textContent))
+                .observe(document.body, { childList: true, subtree: true, characterData: true })""")
+            rig.gone.add(rig.fixtures[2].uid)
+            web.call("discover")
+            seen.until("document.querySelector('.result')?.textContent.startsWith('4 fixtures found with')")
+            seen.until(f"{SECTIONS}['Missing']?.includes('Back truss')")
+            self.assertEqual([each for each in seen.page.value("window.both") if "so far" in each], [])
+
+    @at_each_size
+    def test_a_file_in_a_page_that_is_view_only(self, size: Tuple[int, int]) -> None:
+        with opened(size, "file", looking=True) as (seen, _, _rig):
+            seen.until("document.querySelector('main > p')?.textContent"
+                       " === 'A saved file shows what is missing or differs.'")
+
+    @at_each_size
+    def test_what_is_said_of_no_answer(self, size: Tuple[int, int]) -> None:
+        with opened(size) as (seen, web, rig):
+            seen.until(f"document.querySelector(\"{row(BACK)} .address\")?.value === '100'")
+            rig.gone.add(rig.fixtures[2].uid)
+            web.call("change", uid=BACK, column="address", value="300")
+            seen.until(f"document.querySelector(\"{row(BACK)} .note\").textContent.trim() === "
+                       "'no answer to device info'")
+
+    def test_slots_of_the_file_arent_offered(self) -> None:
+        for slots, free in (("3", 104), ("", 102)):
+            with self.subTest(slots=slots), opened(DESK) as (seen, web, _):
+                seen.until(f"document.querySelector(\"{row(RIGHT)} .address\")?.value === '8'")
+                # Its own place in the file is no obstacle.
+                text = f"uid,address,slots\n4444:00000004,101,{slots}\n{RIGHT},102,7\n"
+                self.assertNotIn("error", web.call("load", name="rig.csv", text=text))
+                seen.until("document.querySelector('.tools a')")
+                seen.click(f"{row(RIGHT)} .address")
+                seen.type("99")
+                seen.key("Enter")
+                seen.button(f"Set Front right to {free}, the next free address")
+
+    def test_links_for_a_thumb(self) -> None:
+        if program() is None:
+            self.skipTest("needs the proved program")
+        with opened(PHONE) as (seen, web, rig):
+            rig.gone.add(rig.fixtures[2].uid)
+            web.call("load", name="rig.csv", text=f"uid,address\n{LEFT},20\n4444:00000004,101\n")
+            web.call("discover")
+            seen.until("document.querySelector('.count')?.textContent === '4 found, 1 missing'")
+            for view, alone in (("fixtures", ".tools a"), ("file", ""), ("discovery", "main > div > p a")):
+                seen.page.value(f"location.hash = location.hash.split('/')[0] + '/{view}'")
+                seen.until(f"document.querySelector('main.{view} a')")
+                tall = "[...document.querySelectorAll('{}')].map((each) => each.getBoundingClientRect().height)"
+                self.assertGreaterEqual(min(seen.page.value(tall.format("main a"))), 24, view)
+                if alone:
+                    seen.until(f"document.querySelector('{alone}')")
+                    self.assertGreaterEqual(min(seen.page.value(tall.format(alone))), 44, view)
 
 
 if __name__ == "__main__":

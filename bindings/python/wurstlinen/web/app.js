@@ -134,6 +134,4 @@ export function redraw() {
 
 addEventListener("hashchange", () => (location.hash.slice(1).split("/")[0] === token ? draw() : location.reload()));
 draw();
-if (token) {
-    follow(redraw);
-}
+token && follow(redraw);

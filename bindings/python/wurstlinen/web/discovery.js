@@ -26,14 +26,16 @@ export function alarm() {
         absent && `Missing: ${absent}. `, make("a", { href: addressOf("discovery") }, "Discovery"), " says more.");
 }
 
+// Whether one is under way, of this page or of another program. Once its result is shown it has ended.
+export const isUnderWay = (last = parts.get("discovery"), now = parts.get("progress")) => Boolean(last?.runs
+    || (now && !now.is_over && last?.frames !== now.frames));
+
 // How far a run is, or was if the result isn't shown.
 function progressText(now, last) {
-    if (!now || (now.is_over && last?.frames === now.frames)) {
-        return now ? "" : "No discovery was seen so far.";
-    }
-    const names = now.is_over ? "" : now.found.map((uid) => nameOf(fixtureOf(uid)) || uid).join(", ");
-    return `Run ${now.run}: ${plural(now.frames, "frame")}${now.is_over ? "" : " so far"}, `
-        + `${plural(now.found.length, "fixture")} found${names && `: ${names}`}`;
+    const names = (now && !now.is_over ? now.found : []).map((uid) => nameOf(fixtureOf(uid)) || uid).join(", ");
+    return !now ? "No discovery was seen so far." : last?.frames === now.frames ? "" : `Run ${now.run}: `
+        + `${plural(now.frames, "frame")}${now.is_over ? "" : " so far"}, ${plural(now.found.length, "fixture")} found`
+        + (names && `: ${names}`);
 }
 
 // What is said of devices, or without a UID of the line.

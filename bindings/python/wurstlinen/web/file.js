@@ -40,11 +40,9 @@ function differences(file) {
     const { name, rows, note, differences: found } = file;
     return [make("p", {}, `${name} has ${plural(rows, "fixture")}; ${found.length ? `${differencesOf(file)}:`
         : "nothing differs."}`), make("p", {}, note),
-    make("ul", { class: "differences" }, found.map(({ kind, uid, label, text }) => {
-        const isWrong = ["missing", "overlap", "end"].includes(kind);
-        return make("li", { class: classes(isWrong && "bad") }, make("b", {}, `${kind}: `), linked(uid, label),
-            `, ${text}`);
-    }))];
+    make("ul", { class: "differences" }, found.map(({ kind, uid, label, text }) => make("li", { class: classes(
+        ["missing", "overlap", "end"].includes(kind) && "bad") }, make("b", {}, `${kind}: `), linked(uid, label),
+    `, ${text}`)))];
 }
 
 export function view() {
@@ -55,5 +53,5 @@ export function view() {
         make("input", { type: "file", accept: ".csv,.txt,.tsv,text/csv", id: "chooser", hidden: true, onchange: load }),
         file && button(`Apply ${file.name} …`, look, { disabled: !maySend() }),
         file && button("Close the file", () => act("unload", {}), { disabled })), ...(file ? differences(file)
-        : [make("p", {}, "A saved file shows what is missing or differs, and can be applied.")])];
+        : [make("p", {}, `A saved file shows what is missing or differs${disabled ? "" : ", and can be applied"}.`)])];
 }

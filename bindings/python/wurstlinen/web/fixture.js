@@ -77,7 +77,7 @@ export function view(uid) {
         make("p", { class: "sensors" }, isOld + measured || (parts.get("role") !== "looks" || sections.identity ? ""
             : "Sensors and all else are shown once a page that isn't view only opens it.")),
         mayUse() && button(isReading ? "Reading …" : "Read all again", () => readAll(uid),
-            { disabled: isReading || !maySend() }),
+            { disabled: isReading || !maySend() || Boolean(found.missing) }),
         make("div", { class: "sections", "aria-busy": String(isReading) },
             Object.entries(sections).map(([title, rows]) => sectionOf(uid, title, rows, forms))))];
 }

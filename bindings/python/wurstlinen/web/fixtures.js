@@ -1,6 +1,6 @@
 // The table of fixtures, in which values are edited in place; and the walk along the truss.
 import { act, addressOf, busily, busy, busyAs, redraw, say, undo } from "/app.js";
-import { alarm } from "/discovery.js";
+import { alarm, isUnderWay } from "/discovery.js";
 import { button, classes, isTouched, make, plural } from "/dom.js";
 import { fixtureOf, maySend, mayUse, parts, partsOf } from "/server.js";
 
@@ -35,9 +35,11 @@ export function linked(uid, label = "") {
 export const problemOf = ({ kind, uid, other }, own) => (kind === "end" ? "ends after slot 512"
     : `overlaps ${placedNameOf(fixtureOf(own === uid ? other : uid))}`);
 
-// The next address from one on at which a fixture would share no slots; 0 if there is none.
+// The next address from one on at which a fixture shares no slots, with none of the file either; 0 if there is none.
 export function freeFrom({ root, first, last }, wanted) {
-    const others = partsOf("fixture/").filter((each) => each.first && each.root !== root);
+    const planned = (parts.get("file")?.planned ?? []).filter(([uid]) => fixtureOf(uid)?.root !== root)
+        .map(([, at, count]) => ({ first: Number(at), last: Number(at) + (Number(count) || 1) - 1 }));
+    const others = [...partsOf("fixture/").filter((each) => each.first && each.root !== root), ...planned];
     const isFree = (at) => at + last - first <= 512
         && others.every((each) => at + last - first < each.first || each.last < at);
     const all = [1, ...others.map((each) => each.last + 1)].filter(isFree).sort((one, other) => one - other);
@@ -48,8 +50,9 @@ export function freeFrom({ root, first, last }, wanted) {
 export function notesOf({ uid, missing, notes }) {
     const problems = (parts.get("problems") ?? []).filter((each) => each.uid === uid || each.other === uid);
     const waits = parts.get("line")?.paused && [...busy].some((name) => name.startsWith(uid));
-    return [waits && "waits for the end of the pause", missing && `missing: ${advice(missing)}`, ...notes,
-        ...problems.map((each) => problemOf(each, uid))].filter(Boolean);
+    return [waits && "waits for the end of the pause", missing && `missing: ${advice(missing)}`,
+        ...notes.map((each) => each.replaceAll("_", " ")), ...problems.map((each) => problemOf(each, uid))]
+        .filter(Boolean);
 }
 
 export const remarksOf = ({ uid, root, is_slow: isSlow }) => [root === uid ? "" : `part of ${nameOf(fixtureOf(root))
@@ -61,11 +64,9 @@ export const slotsOf = ({ first, last, is_read: isRead }) => (first ? [...new Se
 export function ordered() {
     const words = chosen.filter.toLowerCase().split(" ");
     const keyOf = (found) => String(found[chosen.column] ?? "").toLowerCase();
-    const wanted = partsOf("fixture/").filter((found) => {
-        const named = [found.uid, found.label, found.model, found.manufacturer, found.address];
-        const text = [...named, ...notesOf(found), ...remarksOf(found)].join(" ").toLowerCase();
-        return words.every((word) => text.includes(word));
-    });
+    const textOf = (found) => [found.uid, found.label, found.model, found.manufacturer, found.address,
+        ...notesOf(found), ...remarksOf(found)].join(" ").toLowerCase();
+    const wanted = partsOf("fixture/").filter((found) => words.every((word) => textOf(found).includes(word)));
     const compare = new Intl.Collator("en", { numeric: chosen.column !== "uid" }).compare;
     const sign = chosen.isDown ? -1 : 1;
     // What isn't known comes last.
@@ -127,9 +128,7 @@ export async function walk(from, step) {
     const next = all[at < 0 ? (step > 0 ? 0 : all.length - 1) : at + step];
     walked = next?.uid ?? null;
     const keys = next ? { uid: walked, on: true, only: true } : { uid: from, on: false };
-    if ((next || from) && await act("identify", keys) && !next) {
-        say("That was the last one.");
-    }
+    (next || from) && await act("identify", keys) && !next && say("That was the last one.");
     return walked;
 }
 
@@ -174,8 +173,9 @@ function tools(all, shown) {
             onchange: ({ target }) => sortBy(target.value) },
         Object.entries(COLUMNS).map(([value, title]) => make("option", { value },
             `sort: ${value === "uid" ? title : value}`))),
-        make("p", { class: "count", role: "status" }, (missing ? `${all.length - missing} found, ${missing} missing`
-            : plural(all.length, "fixture")) + (shown.length === all.length ? "" : `, ${shown.length} shown`)),
+        make("p", { class: "count", role: "status" }, (isUnderWay() ? "a discovery runs" : missing
+            ? `${all.length - missing} found, ${missing} missing` : plural(all.length, "fixture"))
+            + (shown.length === all.length ? "" : `, ${shown.length} shown`)),
         file && make("a", { href: addressOf("file") }, `${file.name}: ${differencesOf(file)}`));
 }
 

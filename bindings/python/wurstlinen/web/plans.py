@@ -34,7 +34,9 @@ class Plans:
         remarks = StringIO()
         self._file = rig_file(name[:MOST_NAME], text.encode(errors="surrogatepass"), Output(False, errors=remarks))
         self._about = {"name": name[:MOST_NAME], "rows": len(self._file.rows),
-                       "note": remarks.getvalue().strip().removeprefix("wurstlinen: ")}
+                       "note": remarks.getvalue().strip().removeprefix("wurstlinen: "),
+                       "planned": [(str(row.uid), row.values[ADDRESS], row.cells.get(SLOTS))
+                                   for row in self._file.rows if ADDRESS in row.values]}
         self._rig.planned_labels = {row.uid: row.values.get(LABEL, "") for row in self._file.rows}
         self._compare()
 

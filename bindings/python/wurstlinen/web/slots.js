@@ -83,9 +83,8 @@ function dragged(event) {
     const within = slotAt(event) - fixtureOf(uid).first, over = new AbortController(), { signal } = over;
     // Beside the slots it stays where it was.
     addEventListener("pointermove", (moved) => slotAt(moved) && move(uid, slotAt(moved) - within), { signal });
-    for (const name of ["pointerup", "pointercancel"]) {
-        addEventListener(name, () => (over.abort(), finish(name === "pointerup")), { signal });
-    }
+    ["pointerup", "pointercancel"].forEach((name) => addEventListener(name, () => (over.abort(),
+        finish(name === "pointerup")), { signal }));
 }
 
 // The parts of a fixture in the rows of the grid. The first one is the fixture for keys and for who listens.
