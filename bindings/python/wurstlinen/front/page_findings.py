@@ -91,7 +91,7 @@ class Findings:
     def of_uids(self, expected: AbstractSet[int]) -> Iterator[Tuple[Optional[int], Finding]]:
         """The findings but the first of each run, each with the UID whose device it is about, if there is one.
 
-        No device has a broadcast UID. After a complete discovery, bytes after a UID that isn't expected are no device's.
+        No device has a broadcast UID. After a complete discovery, bytes after an unexpected UID are no device's.
         """
         is_complete = all(run.outcome is Outcome.COMPLETE for run in self.runs)
         for each in self.all:
