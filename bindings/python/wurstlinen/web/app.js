@@ -15,26 +15,33 @@ const MESSAGE_TIME = 6_000;
 const DEAF_TIME = 600;
 // What is under way, by names.
 export const busy = new Set();
-let message = null, place = "";
+// The messages that nobody has closed so far, of which the last one is shown.
+let said = [], place = "";
 
 export const addressOf = (view, rest = "") => `#${token}/${view}${rest ? `/${rest}` : ""}`;
 
-// Says what happened. What went wrong stays until somebody has read it.
+// Says what happened. What went wrong stays until somebody has read it, also below what is said after it.
 export function say(text, { isBad = false, actions = [] } = {}) {
-    const said = message = { text, isBad, actions, from: document.activeElement, isDeaf: true };
-    draw();
-    if (actions.length) {
-        // A question is where keys are.
+    const from = document.activeElement, message = { text, isBad, actions, from };
+    said = [...said.filter((each) => each.isBad), message];
+    listenLater(message);
+    if (actions.length && !(from.matches("input, select") && (from.isTyped || !busy.has(from.name)))) {
+        // A question is where keys are, unless these are in a field that hasn't to do with it.
         document.querySelector("#messages button:last-child").focus();
-        setTimeout(() => (said.isDeaf = false, draw()), DEAF_TIME);
-    } else if (!isBad) {
-        setTimeout(() => message === said && close(), MESSAGE_TIME);
+    } else if (!actions.length && !isBad) {
+        setTimeout(() => said.at(-1) === message && close(), MESSAGE_TIME);
     }
 }
 
+// Shows a message, whose actions can't be pressed at once.
+function listenLater(message) {
+    draw(message.isDeaf = true);
+    setTimeout(() => draw(message.isDeaf = false), DEAF_TIME);
+}
+
 function close() {
-    const { from } = message;
-    draw(message = null);
+    const { from } = said.pop();
+    said.length ? listenLater(said.at(-1)) : draw();
     (document.activeElement === document.body ? from : document.activeElement).focus();
 }
 
@@ -55,7 +62,7 @@ export async function asked(name, keys) {
     return answer.error ? void say(fixtures.named(answer.error), { isBad: true }) : answer;
 }
 
-// Does something, and says how it ended. If slots would overlap, it is done only if that is wanted.
+// Does something, says how it ended, and returns whether it was done. If slots would overlap, that is a question first.
 export async function act(name, keys, done = "") {
     const answer = await asked(name, keys);
     const { made = 0, failures = [], problems = [] } = answer ?? {};
@@ -72,7 +79,7 @@ export async function act(name, keys, done = "") {
     } else if (answer && done) {
         say(done);
     }
-    return Boolean(answer) && !failures.length;
+    return Boolean(answer) && !failures.length && (made > 0 || !problems.length);
 }
 
 function statusText(now) {
@@ -102,8 +109,8 @@ function header(name) {
 }
 
 function messages() {
-    const { isBad, actions, text, isDeaf: disabled } = message ?? {};
-    return make("div", { id: "messages", role: "alert" }, message && make("div", { class: classes("message",
+    const { isBad, actions, text, isDeaf: disabled } = said.at(-1) ?? {};
+    return make("div", { id: "messages", role: "alert" }, said.length > 0 && make("div", { class: classes("message",
         isBad && "bad") }, make("p", {}, text), actions.map((each) => button(each.text, () => (close(), each.act()),
         { disabled })), button(actions.length ? "Cancel" : "Close", close)));
 }
@@ -114,7 +121,7 @@ export function draw() {
     place = `${name}/${uid}`;
     if (place !== before) {
         // Who goes elsewhere leaves what was asked, and has read what was done.
-        message = message?.isBad && !message.actions.length ? message : null;
+        said = said.filter((each) => each.isBad && !each.actions.length);
         document.title = `${TITLES[name] ?? uid} · Wurstlinen`;
     }
     show(document.body, [header(name), make("main", { id: "view", key: place, class: name, tabindex: "-1" },

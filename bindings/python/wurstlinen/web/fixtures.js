@@ -13,6 +13,8 @@ const WALKING = "Identify next stops the one before it; it goes through what is 
 const chosen = { filter: "", column: "address", isDown: false };
 // The fixture to which this page's walk has come, which the page's program may not have shown so far.
 let walked = null;
+// The values that are on their way, by the names of their inputs.
+const sent = new Map();
 
 export const nameOf = (found) => found?.label || (found?.model && found.address ? `${found.model} at ${found.address}`
     : found?.model || found?.uid || "");
@@ -66,7 +68,10 @@ export function ordered() {
     const keyOf = (found) => String(found[chosen.column] ?? "").toLowerCase();
     const textOf = (found) => [found.uid, found.label, found.model, found.manufacturer, found.address,
         ...notesOf(found), ...remarksOf(found)].join(" ").toLowerCase();
-    const wanted = partsOf("fixture/").filter((found) => words.every((word) => textOf(found).includes(word)));
+    // The row in which somebody types stays.
+    const held = document.activeElement.closest("tr")?.id;
+    const wanted = partsOf("fixture/").filter((found) => found.uid === held
+        || words.every((word) => textOf(found).includes(word)));
     const compare = new Intl.Collator("en", { numeric: chosen.column !== "uid" }).compare;
     const sign = chosen.isDown ? -1 : 1;
     // What isn't known comes last.
@@ -80,25 +85,41 @@ function personalitiesOf({ personality, personality_name: name, personalities, s
         `${each.number} ${each.name} (${plural(each.slots, "slot")})`));
 }
 
-// An input for a value. What is typed is sent, read back, and shown; what was refused comes back.
+// What a fixture has in a column, or will have if it refuses nothing that is on its way.
+export const valueOf = (uid, column) => sent.get(`${uid}/${column}`) ?? String(fixtureOf(uid)?.[column] ?? "");
+
+// Sends a value, which is read back and shown. What is sent meanwhile follows it; of several the last one.
+export async function send(uid, column, value) {
+    const name = `${uid}/${column}`, isUnderWay = sent.has(name);
+    if (value !== valueOf(uid, column)) {
+        sent.set(name, value);
+        isUnderWay || await busily(name, async () => {
+            for (let last = null; last !== sent.get(name);) {
+                last = sent.get(name);
+                const before = fixtureOf(uid), isMade = await act("change", { uid, column, value: last });
+                // It was read back, of which the page hears a moment later.
+                before && isMade && before === fixtureOf(uid) && (before[column] = last);
+            }
+            sent.delete(name);
+        });
+    }
+}
+
+// An input for a value. What is typed is sent; what was refused comes back.
 export function editor(found, column) {
     const { uid } = found, name = `${uid}/${column}`, isChoice = column === "personality", isLabel = column === "label";
-    const known = () => String(fixtureOf(uid)?.[column] ?? "");
-    const send = async ({ target }) => {
-        if (target.value !== known() && !busy.has(name)) {
-            const value = isLabel ? target.value : target.value.trim();
-            await busily(name, () => act("change", { uid, column, value }));
-            target.value = known();
-        }
+    const leaveIt = ({ target: { value, isTyped }, target }) => {
+        redraw(target.isTyped = false);
+        isTyped && send(uid, column, isLabel ? value : value.trim());
     };
-    const restore = ({ target }) => (target.value = known());
-    const onkeydown = (event) => ({ Escape: restore, Enter: send })[event.key]?.(event);
+    const restore = ({ target }) => redraw(Object.assign(target, { value: valueOf(uid, column), isTyped: false }));
+    const onkeydown = (event) => ({ Escape: restore, Enter: leaveIt })[event.key]?.(event);
     // A phone has no Escape. What was typed is gone before the box is left.
     const onpointerdown = (event) => (event.preventDefault(), restore({ target: event.target.previousSibling }));
     const leave = button("✕", ({ target }) => target.previousSibling.blur(), { class: "leave", onpointerdown,
         "aria-label": "Leave it as it was" });
-    return [make(isChoice ? "select" : "input", { ...busyAs(name, column), shown: busy.has(name) ? null : known(),
-        onkeydown, onchange: send, onblur: redraw, autocomplete: "off", spellcheck: "false",
+    return [make(isChoice ? "select" : "input", { ...busyAs(name, column), name, shown: valueOf(uid, column),
+        onkeydown, onchange: leaveIt, onblur: leaveIt, autocomplete: "off", spellcheck: "false",
         "aria-label": `${COLUMNS[column]} of ${nameOf(found)}`, inputmode: column === "address" ? "numeric" : null,
         maxlength: isLabel ? 128 : null, placeholder: isLabel && found.is_read
             ? [...new Set([nameOf(found), uid])].join(", ") : null,
@@ -170,7 +191,7 @@ function tools(all, shown) {
         make("input", { type: "search", placeholder: "label, UID, model …", "aria-label": "Show only",
             shown: chosen.filter, oninput: ({ target }) => choose({ filter: target.value }) }),
         make("select", { class: "narrow", "aria-label": "Sort by", shown: chosen.column,
-            onchange: ({ target }) => sortBy(target.value) },
+            onchange: ({ target }) => (target.isTyped = false, sortBy(target.value)) },
         Object.entries(COLUMNS).map(([value, title]) => make("option", { value },
             `sort: ${value === "uid" ? title : value}`))),
         make("p", { class: "count", role: "status" }, (isUnderWay() ? "a discovery runs" : missing

@@ -81,8 +81,9 @@ function dragged(event) {
         return;
     }
     const within = slotAt(event) - fixtureOf(uid).first, over = new AbortController(), { signal } = over;
-    // Beside the slots it stays where it was.
-    addEventListener("pointermove", (moved) => slotAt(moved) && move(uid, slotAt(moved) - within), { signal });
+    // Beside the slots it stays where it was, and one that is missing by now, too.
+    addEventListener("pointermove", (moved) => slotAt(moved) && mayMove(uid) && move(uid, slotAt(moved) - within),
+        { signal });
     ["pointerup", "pointercancel"].forEach((name) => addEventListener(name, () => (over.abort(),
         finish(name === "pointerup")), { signal }));
 }
