@@ -432,6 +432,8 @@ class OtherViews(BrowserTestCase):
                 + "button[data-uid='{LEFT}']")].map((each) => each.getBoundingClientRect().top)
                 .sort((one, other) => other - one)""")
             self.assertGreater(lifted - below, 6)
+            style = f"getComputedStyle(document.querySelector(\"button[data-uid='{RIGHT}']\"))"
+            self.assertEqual(seen.page.value(f"[{style}.color, {style}.backgroundColor]"), ["rgba(0, 0, 0, 0)"] * 2)
             seen.key("Escape")
             self.assertIn("Drag a fixture", seen.texts(".hint")[0])
             for _ in range(3):
@@ -466,7 +468,7 @@ class OtherViews(BrowserTestCase):
             seen.page.value(f"document.querySelector(\"{away}\").focus()")
             seen.key("ArrowRight")
             seen.page.value(f"document.querySelector(\"button[data-uid='{RIGHT}']\").focus()")
-            for key in ["ArrowDown"] * (6 if size == PHONE else 3) + ["ArrowLeft"] * 5:
+            for key in ["ArrowDown"] * (12 if size == PHONE else 3) + ["ArrowLeft"] * 5:
                 seen.key(key)
             self.assertEqual(seen.texts(".hint"), ["Front right: 8-14 → 99-105, overlaps Back truss (missing)"])
             seen.key("Enter")

@@ -10,7 +10,9 @@ from unittest import mock
 
 from browser import needs_chromium
 from common import needs_library
-from web_pages import BACK, DESK, LEFT, RIGHT, SECONDS, BrowserTestCase, Moody, Window, at_each_size, opened, row
+from web_pages import (
+    BACK, DESK, LEFT, PHONE, RIGHT, SECONDS, BrowserTestCase, Moody, Window, at_each_size, opened, row,
+)
 
 # The page is drawn whenever it has nothing else to do, as if something came between any two keys.
 DRAWING = "import('/app.js').then(({draw}) => void setInterval(draw, 0))"
@@ -198,6 +200,31 @@ class Typing(BrowserTestCase):
                 go_on(seen, power)
             self.assertEqual(seen.value("details input"), "123")
             self.assertEqual(seen.page.value("document.querySelector('details').open"), True)
+
+    @at_each_size
+    def test_nothing_moves_under_a_hand(self, size: Tuple[int, int]) -> None:
+        """Whatever is said in rows. On a phone that is below what is used, so that it is so for the row itself."""
+        place = row(LEFT) if size == PHONE else "tbody tr"
+        places = f"""[...document.querySelectorAll("{place} :is(.identify, .label, .address, .personality, .more)")]
+            .map((each) => (({{left, top}}) => [left, top])(each.getBoundingClientRect()))"""
+        with opened(size) as (seen, web, _):
+            self.begin(seen, f"{row(LEFT)} .label", "")
+            seen.until("document.querySelectorAll('.rig .label:enabled').length === 5")
+            before = seen.page.value(places)
+            for column, value in (("label", "A label of thirty-two characters"), ("address", "20"), ("address", "99"),
+                                  ("personality", "2"), ("label", "")):
+                web.call("change", uid=LEFT, column=column, value=value, force=True)
+                seen.until(f"document.querySelector('.made')?.textContent.includes(\"→ {value or 'empty'}\")")
+                self.assertEqual(seen.page.value(places), before)
+
+    def test_a_message_doesnt_cover_what_it_is_about(self) -> None:
+        with opened(PHONE) as (seen, _, _rig):
+            self.begin(seen, f"{row(BACK)} .address", "513")
+            seen.key("Enter")
+            seen.until("document.querySelector('.message')")
+            bottom, top = seen.page.value(f"[\"{row(BACK)}\", '.message'].map((each) => document.querySelector(each)"
+                                          ".getBoundingClientRect()).map(({bottom, top}, at) => at ? top : bottom)")
+            self.assertLessEqual(bottom, top)
 
     def test_a_piece_that_is_moved(self) -> None:
         """Others move meanwhile, and then it is taken from the list."""

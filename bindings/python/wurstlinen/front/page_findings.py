@@ -40,6 +40,8 @@ OUTCOMES = {
 BROKEN, UNBROKEN, NO_DISCOVERY = "A rule was broken.", "No broken rule was seen.", "No discovery."
 # The judgements by which a rule was broken, whichever devices are there; and the one on a listed device.
 BREAKS, BROKE, GARBLED = ("stray", "unmuted", "garbled"), "broke", "garbled"
+# The judgement on a part of the certificate that fails, which may be about a range of UIDs.
+GAP = "gap"
 # The judgements on bytes that read as a device's, which need not have sent them.
 STRAY = ("stray", "unexplained")
 NOTHING_ELSE = "nothing else can be on this line if it is honest"
@@ -91,13 +93,14 @@ class Findings:
     def of_uids(self, expected: AbstractSet[int]) -> Iterator[Tuple[Optional[int], Finding]]:
         """The findings but the first of each run, each with the UID whose device it is about, if there is one.
 
-        No device has a broadcast UID. After a complete discovery, bytes after an unexpected UID are no device's.
+        No device has a broadcast UID. Where an unsettled range begins there need be none. After a complete discovery,
+        bytes after an unexpected UID are no device's.
         """
         is_complete = all(run.outcome is Outcome.COMPLETE for run in self.runs)
         for each in self.all:
             uid = None if each.judgement in STRAY else each.uid
-            is_noise = is_complete and each.judgement == GARBLED and uid not in expected
-            if uid is not None and (is_noise or is_broadcast(uid)):
+            is_nobody = each.judgement == GAP or (is_complete and each.judgement == GARBLED)
+            if uid is not None and ((is_nobody and uid not in expected) or is_broadcast(uid)):
                 uid = None
             if not each.is_head:
                 yield uid, each

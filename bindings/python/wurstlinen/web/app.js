@@ -33,9 +33,11 @@ export function say(text, { isBad = false, actions = [] } = {}) {
     }
 }
 
-// Shows a message, whose actions can't be pressed at once.
+// Shows a message, whose actions can't be pressed at once. What it is about stays in sight.
 function listenLater(message) {
     draw(message.isDeaf = true);
+    const about = message.from.closest("tr, label")?.getBoundingClientRect().bottom ?? 0;
+    scrollBy(0, Math.max(0, about - document.querySelector(".message").getBoundingClientRect().top));
     setTimeout(() => draw(message.isDeaf = false), DEAF_TIME);
 }
 

@@ -165,8 +165,9 @@ function rowOf(found) {
     const cells = { "of-identify": identifier(found), "of-label": editor(found, "label"),
         "of-address": editor(found, "address"), slots: slotsOf(found), "of-personality": editor(found, "personality"),
         model: [found.manufacturer, found.model].filter(Boolean).join(" "), uid,
-        note: [make("span", {}, note), " ", make("small", {}, remarksOf(found).join("; ")),
-            changeOf(found), missing && mayUse() && button("Remove from the list", () => act("forget", { uid }))],
+        note: make("div", { class: "told" }, make("p", { title: note }, make("span", {}, note), " ",
+            make("small", {}, remarksOf(found).join("; "))), changeOf(found),
+        missing && mayUse() && button("Remove from the list", () => act("forget", { uid }))),
         "of-more": make("a", { href: addressOf("fixture", uid), class: "more",
             "aria-label": `All about ${nameOf(found)}` }, "›") };
     return make("tr", { key: uid, id: uid, class: classes(missing && "missing", identifies && "identifies") },

@@ -9,7 +9,7 @@ const LAST = 512, MOST_PROBLEMS = 5;
 const HELP = isTouched ? "Tap a fixture to select it, and then drag it."
     : "Drag a fixture, or select it and use the arrow keys; Enter moves it, Escape leaves it where it was.";
 const isNarrow = matchMedia("(max-width: 700px)");
-const width = () => (isNarrow.matches ? 16 : 32);
+const width = () => (isNarrow.matches ? 8 : 32);
 const rowOf = (slot) => Math.ceil(slot / width());
 const areaOf = (from, to) => `grid-area: ${rowOf(from)} / ${(from - 1) % width() + 1} / auto / span ${to - from + 1};`;
 const nameWithSlots = (found) => `${placedNameOf(found)}, ${slotsOf(found)}`;
