@@ -377,7 +377,8 @@ class OtherViews(BrowserTestCase):
             at = seen.page.value(f"""(() => {{ document.querySelector("{piece}").scrollIntoView({{block: "center"}});
                 const box = document.querySelector("{piece}").getBoundingClientRect();
                 return [box.left + 8, box.top + 8]; }})()""")
-            by_the_way, there = way(seen, 8, 8 + 17), way(seen, 8, 8 + 48)
+            # It is taken where its name is, which has no room in slot 8, the last one of its row.
+            by_the_way, there = way(seen, 9, 9 + 17), way(seen, 9, 9 + 48)
 
             def touch(kind: str, dx: float = 0, dy: float = 0) -> None:
                 points = [] if kind == "touchEnd" else [{"x": at[0] + dx, "y": at[1] + dy}]
@@ -398,6 +399,7 @@ class OtherViews(BrowserTestCase):
         with opened(size, "slots") as (seen, _, _rig):
             seen.until("document.querySelectorAll('button.crowded').length === 3")
             found = seen.page.value("""[...document.querySelectorAll("button.piece")].map((each) => {
+                each.scrollIntoView({ block: "center" });
                 const range = new Range();
                 range.selectNodeContents(each);
                 const { left, right, top, height } = range.getBoundingClientRect();

@@ -13,43 +13,39 @@ const TITLES = { fixtures: "Fixtures", slots: "Slots", file: "File", discovery: 
 const MESSAGE_TIME = 6_000;
 // A press that was meant for what was there before a question comes sooner.
 const DEAF_TIME = 600;
-// What is under way, by names.
-export const busy = new Set();
-// The messages that nobody has closed so far, of which the last one is shown.
-let said = [], place = "";
+// What is under way, by names; for an input, the value that is on its way.
+export const busy = new Map();
+let message = null, place = "";
 
 export const addressOf = (view, rest = "") => `#${token}/${view}${rest ? `/${rest}` : ""}`;
 
-// Says what happened. What went wrong stays until somebody has read it, also below what is said after it.
+// Says what happened. What went wrong stays until somebody has read it, with what is said meanwhile.
 export function say(text, { isBad = false, actions = [] } = {}) {
-    const from = document.activeElement, message = { text, isBad, actions, from };
-    said = [...said.filter((each) => each.isBad), message];
-    listenLater(message);
+    const from = document.activeElement, unread = message?.isBad ? message : { text: "", actions };
+    const said = message = { text: [...new Set([unread.text, text].join("\n").trim().split("\n"))].join("\n"), from,
+        isBad: isBad || unread.isBad, actions: actions.length ? actions : unread.actions, isDeaf: true };
+    draw();
     if (actions.length && !(from.matches("input, select") && (from.isTyped || !busy.has(from.name)))) {
         // A question is where keys are, unless these are in a field that hasn't to do with it.
         document.querySelector("#messages button:last-child").focus();
-    } else if (!actions.length && !isBad) {
-        setTimeout(() => said.at(-1) === message && close(), MESSAGE_TIME);
+    } else if (!said.isBad && !said.actions.length) {
+        setTimeout(() => message === said && close(), MESSAGE_TIME);
     }
-}
-
-// Shows a message, whose actions can't be pressed at once. What it is about stays in sight.
-function listenLater(message) {
-    draw(message.isDeaf = true);
-    const about = message.from.closest("tr, label")?.getBoundingClientRect().bottom ?? 0;
+    setTimeout(() => (said.isDeaf = false, draw()), DEAF_TIME);
+    // What it is about stays in sight.
+    const about = from.closest("tr, label")?.getBoundingClientRect().bottom ?? 0;
     scrollBy(0, Math.max(0, about - document.querySelector(".message").getBoundingClientRect().top));
-    setTimeout(() => draw(message.isDeaf = false), DEAF_TIME);
 }
 
 function close() {
-    const { from } = said.pop();
-    said.length ? listenLater(said.at(-1)) : draw();
+    const { from } = message;
+    draw(message = null);
     (document.activeElement === document.body ? from : document.activeElement).focus();
 }
 
 // Shows that something is under way.
-export async function busily(name, work) {
-    redraw(busy.add(name));
+export async function busily(name, work, value = null) {
+    redraw(busy.set(name, value));
     await work();
     redraw(busy.delete(name));
 }
@@ -111,8 +107,8 @@ function header(name) {
 }
 
 function messages() {
-    const { isBad, actions, text, isDeaf: disabled } = said.at(-1) ?? {};
-    return make("div", { id: "messages", role: "alert" }, said.length > 0 && make("div", { class: classes("message",
+    const { isBad, actions, text, isDeaf: disabled } = message ?? {};
+    return make("div", { id: "messages", role: "alert" }, message && make("div", { class: classes("message",
         isBad && "bad") }, make("p", {}, text), actions.map((each) => button(each.text, () => (close(), each.act()),
         { disabled })), button(actions.length ? "Cancel" : "Close", close)));
 }
@@ -123,7 +119,7 @@ export function draw() {
     place = `${name}/${uid}`;
     if (place !== before) {
         // Who goes elsewhere leaves what was asked, and has read what was done.
-        said = said.filter((each) => each.isBad && !each.actions.length);
+        message = message?.isBad && !message.actions.length ? message : null;
         document.title = `${TITLES[name] ?? uid} · Wurstlinen`;
     }
     show(document.body, [header(name), make("main", { id: "view", key: place, class: name, tabindex: "-1" },

@@ -6,15 +6,12 @@ import { fixtureOf, maySend, mayUse, parts, partsOf } from "/server.js";
 
 const COLUMNS = { label: "Label", address: "Address", slots: "Slots", personality: "Personality", model: "Model",
     uid: "UID" };
-const MOST_NOTES = 2;
 export const SENDING = isTouched ? "Leaving a box sends what you typed; ✕ leaves it as it was."
     : "Enter, or leaving a field, sends what you typed; Escape restores it.";
 const WALKING = "Identify next stops the one before it; it goes through what is shown, in this order.";
 const chosen = { filter: "", column: "address", isDown: false };
 // The fixture to which this page's walk has come, which the page's program may not have shown so far.
 let walked = null;
-// The values that are on their way, by the names of their inputs.
-const sent = new Map();
 
 export const nameOf = (found) => found?.label || (found?.model && found.address ? `${found.model} at ${found.address}`
     : found?.model || found?.uid || "");
@@ -51,7 +48,7 @@ export function freeFrom({ root, first, last }, wanted) {
 // What is wrong with a fixture, and what else is remarkable.
 export function notesOf({ uid, missing, notes }) {
     const problems = (parts.get("problems") ?? []).filter((each) => each.uid === uid || each.other === uid);
-    const waits = parts.get("line")?.paused && [...busy].some((name) => name.startsWith(uid));
+    const waits = parts.get("line")?.paused && [...busy.keys()].some((name) => name.startsWith(uid));
     return [waits && "waits for the end of the pause", missing && `missing: ${advice(missing)}`,
         ...notes.map((each) => each.replaceAll("_", " ")), ...problems.map((each) => problemOf(each, uid))]
         .filter(Boolean);
@@ -86,22 +83,22 @@ function personalitiesOf({ personality, personality_name: name, personalities, s
 }
 
 // What a fixture has in a column, or will have if it refuses nothing that is on its way.
-export const valueOf = (uid, column) => sent.get(`${uid}/${column}`) ?? String(fixtureOf(uid)?.[column] ?? "");
+export const valueOf = (uid, column) => busy.get(`${uid}/${column}`) ?? String(fixtureOf(uid)?.[column] ?? "");
 
 // Sends a value, which is read back and shown. What is sent meanwhile follows it; of several the last one.
-export async function send(uid, column, value) {
-    const name = `${uid}/${column}`, isUnderWay = sent.has(name);
-    if (value !== valueOf(uid, column)) {
-        sent.set(name, value);
-        isUnderWay || await busily(name, async () => {
-            for (let last = null; last !== sent.get(name);) {
-                last = sent.get(name);
+export function send(uid, column, value) {
+    const name = `${uid}/${column}`;
+    if (busy.has(name)) {
+        busy.set(name, value);
+    } else if (value !== valueOf(uid, column)) {
+        busily(name, async () => {
+            for (let last = null; last !== busy.get(name);) {
+                last = busy.get(name);
                 const before = fixtureOf(uid), isMade = await act("change", { uid, column, value: last });
                 // It was read back, of which the page hears a moment later.
                 before && isMade && before === fixtureOf(uid) && (before[column] = last);
             }
-            sent.delete(name);
-        });
+        }, value);
     }
 }
 
@@ -114,10 +111,9 @@ export function editor(found, column) {
     };
     const restore = ({ target }) => redraw(Object.assign(target, { value: valueOf(uid, column), isTyped: false }));
     const onkeydown = (event) => ({ Escape: restore, Enter: leaveIt })[event.key]?.(event);
-    // A phone has no Escape. What was typed is gone before the box is left.
-    const onpointerdown = (event) => (event.preventDefault(), restore({ target: event.target.previousSibling }));
-    const leave = button("✕", ({ target }) => target.previousSibling.blur(), { class: "leave", onpointerdown,
-        "aria-label": "Leave it as it was" });
+    // A phone has no Escape. The box isn't left before what was typed is gone.
+    const leave = button("✕", ({ target: { previousSibling: target } }) => (restore({ target }), target.blur()),
+        { class: "leave", onpointerdown: (event) => event.preventDefault(), "aria-label": "Leave it as it was" });
     return [make(isChoice ? "select" : "input", { ...busyAs(name, column), name, shown: valueOf(uid, column),
         onkeydown, onchange: leaveIt, onblur: leaveIt, autocomplete: "off", spellcheck: "false",
         "aria-label": `${COLUMNS[column]} of ${nameOf(found)}`, inputmode: column === "address" ? "numeric" : null,
@@ -159,15 +155,13 @@ async function walkInTable() {
 }
 
 function rowOf(found) {
-    const { uid, missing, identifies } = found, notes = notesOf(found), others = notes.splice(MOST_NOTES).length;
-    const note = found.is_read || missing ? [...notes, ...(others ? [`and ${others} more`] : [])].join("; ")
-        : "is being asked …";
+    const { uid, missing, identifies } = found;
+    const note = found.is_read || missing ? notesOf(found).join("; ") : "is being asked …";
     const cells = { "of-identify": identifier(found), "of-label": editor(found, "label"),
         "of-address": editor(found, "address"), slots: slotsOf(found), "of-personality": editor(found, "personality"),
         model: [found.manufacturer, found.model].filter(Boolean).join(" "), uid,
-        note: make("div", { class: "told" }, make("p", { title: note }, make("span", {}, note), " ",
-            make("small", {}, remarksOf(found).join("; "))), changeOf(found),
-        missing && mayUse() && button("Remove from the list", () => act("forget", { uid }))),
+        note: [changeOf(found), missing && mayUse() && button("Remove from the list", () => act("forget", { uid })),
+            make("p", { title: note }, make("span", {}, note), " ", make("small", {}, remarksOf(found).join("; ")))],
         "of-more": make("a", { href: addressOf("fixture", uid), class: "more",
             "aria-label": `All about ${nameOf(found)}` }, "›") };
     return make("tr", { key: uid, id: uid, class: classes(missing && "missing", identifies && "identifies") },
