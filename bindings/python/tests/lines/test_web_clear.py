@@ -72,7 +72,7 @@ class Clear(BrowserTestCase):
         with opened(PHONE, "slots") as (seen, _, _rig):
             seen.until(f"document.querySelector(\"button[data-uid='{HOUSE}']\")")
             self.assertEqual(seen.texts(".hint"), ["Tap a fixture to select it, and then drag it."])
-            self.assertGreaterEqual(seen.page.value("document.querySelector('.universe i').offsetWidth"), 24)
+            self.assertGreaterEqual(seen.page.value("document.querySelector('.universe i').offsetWidth"), 44)
             seen.tap(f"button[data-uid='{HOUSE}']")
             seen.until("document.querySelector('.hint').textContent === 'House lights, 1: drag it.'")
             style = f"getComputedStyle(document.querySelector(\"button[data-uid='{HOUSE}']\")).outlineStyle"

@@ -43,11 +43,12 @@ function formOf(uid, { parameter, about, acts, fields }) {
         fields.map(fieldOf), button(acts ? `Do it: ${title}` : "Set", press, { disabled: !maySend() }));
 }
 
-// A section stays, with what somebody types in its forms, whatever its values are. Further lines have no title.
+// A section stays, with what somebody types in its forms, whatever its values are. Some titles come again.
 function sectionOf(uid, name, rows, forms) {
     const found = rows.map(([title]) => (mayUse() && forms[title.replaceAll("_", " ")]) || null);
     return make("section", { key: name }, make("h3", {}, name), make("dl", {}, rows.map(([title, text], at) =>
-        make("div", { key: title || at }, make("dt", {}, title.replaceAll("_", " ")),
+        make("div", { key: rows.findIndex(([each]) => each === title) === at ? title : at },
+            make("dt", {}, title.replaceAll("_", " ")),
             make("dd", {}, text || (found[at] ? "" : "can't be shown here"), found[at] && formOf(uid, found[at]))))));
 }
 

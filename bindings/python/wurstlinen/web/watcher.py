@@ -14,7 +14,7 @@ from ..front.discovery_log import explanation
 from ..front.frames import Parts, answer_text, command_of
 from ..front.output import BAD_ARGUMENTS, Failure
 from ..front.page import page_of
-from ..front.page_findings import Findings, NoFindings, findings_in
+from ..front.page_findings import BROKE, GARBLED, Findings, NoFindings, findings_in
 from ..front.shared_line import SharedLine
 from ..front.watched import Watched
 from ..front.work import Work
@@ -33,9 +33,8 @@ from .rig import Rig
 KEY = "discovery"
 # More UIDs can't be named to the proved program.
 MOST_EXPECTED = 1024
-# The judgements on devices that did all as they should, on those that broke a rule, if only by silence, and on those
-# that were asked alone when bytes came that weren't their text.
-GOOD, BROKE, GARBLED = "found", "broke", "garbled"
+# The judgement on devices that did all as they should.
+GOOD = "found"
 MOST_REQUESTS = 100
 # How often it is asked who is connected, and how long a part of that is waited for something to come.
 LOOK_SECONDS = 1.0
