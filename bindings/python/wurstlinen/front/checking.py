@@ -119,6 +119,12 @@ def changed(rows: Sequence[Row], found: Sequence[Fixture]) -> Iterator[Differenc
                 yield difference(row, fixture, column, str(value))
 
 
+def value_in(fixture: Fixture, column: str) -> Optional[str]:
+    """What a device has in a column; None if it isn't known."""
+    value = VALUES[column](fixture)
+    return None if value is None else str(value)
+
+
 def difference(row: Row, fixture: Fixture, column: str, found: str) -> Difference:
     """How a value differs from that of the file."""
     before = row.values[column]

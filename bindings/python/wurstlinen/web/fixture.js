@@ -29,8 +29,7 @@ function formOf(uid, { parameter, about, acts, fields }) {
     const press = ({ target }) => {
         const inputs = [...target.parentElement.querySelectorAll("input, select")];
         const values = inputs.map((each) => each.value);
-        const words = fields.flatMap((field, at) => (field.is_list ? values[at].split(" ").filter(Boolean)
-            : [values[at]]));
+        const words = fields.flatMap((each, at) => (each.is_list ? values[at].split(" ").filter(Boolean) : values[at]));
         const set = async () => {
             const isSet = await act("set", { uid, parameter, words }, `${title} was set, and the fixture read again.`);
             // What was refused stays, and so does what was typed meanwhile.

@@ -6,14 +6,14 @@ from io import StringIO
 from itertools import chain
 from typing import Any, Dict, Optional
 
-from ..front.checking import KINDS, MISSING, Difference, changed, crowded, missing
+from ..front.checking import KINDS, MISSING, Difference, changed, crowded, missing, value_in
 from ..front.csv_files import COLUMNS, LABEL, MODEL, SLOTS, UID, RigFile, merged, rig_file, written
 from ..front.fixtures import FOOTPRINT_FIELD, Fixture
 from ..front.guarding import ADDRESS, problems_of
 from ..front.output import BAD_ARGUMENTS, Failure, Output
 from ..front.sheets import Sheet
 from .hands import SILENT, Board, failure_of
-from .rig import PREFIX, Plan, Rig, value_in
+from .rig import PREFIX, Plan, Rig
 
 MOST_NAME = 100
 

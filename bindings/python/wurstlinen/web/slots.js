@@ -88,21 +88,19 @@ function dragged(event) {
         finish(name === "pointerup")), { signal }));
 }
 
-// The parts of a fixture in the rows of the grid. The first one that has room for a name, or else the last one, is the
-// fixture for keys and for who listens.
+// The parts of a fixture in the grid's rows. The first with room for its name, or the last, is for keys and listeners.
 function piecesOf(found, owners) {
     const { uid, first, last, lane, missing } = found, end = Math.min(last, LAST), pieces = [];
     for (let from = first; from <= end; from = rowOf(from) * width() + 1) {
         const to = Math.min(end, rowOf(from) * width());
         const isMain = pieces.every(({ kind }) => kind === "div") && (to > from + 1 || to === end);
         const isCrowded = owners.slice(from - 1, to).some((count) => count > 1);
-        const attributes = { key: isMain ? uid : `${uid} ${pieces.length}`, "data-uid": uid,
-            title: nameWithSlots(found),
+        const shared = { key: isMain ? uid : `${uid} ${pieces.length}`, "data-uid": uid, title: nameWithSlots(found),
             class: classes("piece", missing && "away", isCrowded && "crowded", moving?.uid === uid && "moving"),
             style: `${areaOf(from, to)} --lane: ${lane}` };
-        pieces.push(isMain ? make("button", { ...attributes, type: "button", onblur: redraw, onfocus: redraw,
+        pieces.push(isMain ? make("button", { ...shared, type: "button", onblur: redraw, onfocus: redraw,
             "aria-label": `${placedNameOf(found)}, slots ${first} to ${last}${isCrowded ? ", overlaps another" : ""}` },
-        placedNameOf(found)) : make("div", { ...attributes, "aria-hidden": "true" }, `… ${placedNameOf(found)}`));
+        placedNameOf(found)) : make("div", { ...shared, "aria-hidden": "true" }, `… ${placedNameOf(found)}`));
     }
     return pieces;
 }
