@@ -89,7 +89,8 @@ function statusText(now) {
                     : `No line: ${now.reason}`;
 }
 
-// Takes the last change back, where that is said.
+// Takes the last change back, where that is said. In a pause it isn't the last: another one may wait.
+export const mayUndo = () => maySend() && !parts.get("line").paused;
 export const undo = ({ text, back }) => act("undo", { text }, `Undone: ${back}.`);
 
 function header(name) {
@@ -99,9 +100,10 @@ function header(name) {
     const stop = all.length > 0 && button(`${all.length} ${all.length > 1 ? "identify" : "identifies"} · Stop`, () =>
         all.forEach(({ uid }) => act("identify", { uid, on: false })), { id: "stop", disabled: !maySend() });
     return make("header", {}, make("h1", {}, "Wurstlinen"),
-        make("p", { id: "status", role: "status", class: classes(isBad && "bad") }, statusText(now)),
+        make("p", { id: "status", role: "status", class: classes(isBad && "bad") }, statusText(now),
+            now?.paused && !lost && make("a", { href: addressOf("line") }, " Resume it in Line")),
         stop, button(last ? `Undo (${last.count})` : "Undo", () => say(`Undo: ${last.back}?`, { actions: [{ text:
-            "Undo", act: () => undo(last) }] }), { id: "undo", disabled: !maySend() || !last }),
+            "Undo", act: () => undo(last) }] }), { id: "undo", disabled: !mayUndo() || !last }),
         make("nav", { "aria-label": "Views" }, Object.entries(TITLES).map(([each, title]) => make("a",
             { href: addressOf(each), "aria-current": each === name ? "page" : null }, title))));
 }

@@ -1,6 +1,6 @@
 // The table of fixtures, in which values are edited in place; and the walk along the truss.
-import { act, addressOf, busily, busy, busyAs, redraw, say, undo } from "/app.js";
-import { alarm, isUnderWay } from "/discovery.js";
+import { act, addressOf, busily, busy, busyAs, mayUndo, redraw, say, undo } from "/app.js";
+import { absent, alarm, isUnderWay } from "/discovery.js";
 import { button, classes, isTouched, make, plural } from "/dom.js";
 import { fixtureOf, maySend, mayUse, parts, partsOf } from "/server.js";
 
@@ -9,6 +9,7 @@ const COLUMNS = { label: "Label", address: "Address", slots: "Slots", personalit
 export const SENDING = isTouched ? "Leaving a box sends what you typed; ✕ leaves it as it was."
     : "Enter, or leaving a field, sends what you typed; Escape restores it.";
 const WALKING = "Identify next stops the one before it; it goes through what is shown, in this order.";
+const PAUSED = "RDM is paused: what you send, Identify and Stop wait until it is resumed. Undo waits for that, too.";
 const chosen = { filter: "", column: "address", isDown: false };
 // The fixture to which this page's walk has come, which the page's program may not have shown so far.
 let walked = null;
@@ -49,9 +50,9 @@ export function freeFrom({ root, first, last }, wanted) {
 export function notesOf({ uid, missing, notes }) {
     const problems = (parts.get("problems") ?? []).filter((each) => each.uid === uid || each.other === uid);
     const waits = parts.get("line")?.paused && [...busy.keys()].some((name) => name.startsWith(uid));
-    return [waits && "waits for the end of the pause", missing && `missing: ${advice(missing)}`,
-        ...notes.map((each) => each.replaceAll("_", " ")), ...problems.map((each) => problemOf(each, uid))]
-        .filter(Boolean);
+    return [waits && "waits until RDM is resumed, and can't be taken back before",
+        missing && `missing: ${advice(missing)}`, ...notes.map((each) => each.replaceAll("_", " ")),
+        ...problems.map((each) => problemOf(each, uid))].filter(Boolean);
 }
 
 export const remarksOf = ({ uid, root, is_slow: isSlow }) => [root === uid ? "" : `part of ${nameOf(fixtureOf(root))
@@ -126,7 +127,7 @@ export function editor(found, column) {
 
 // What was changed last, if it was here, and what takes it back.
 export const changeOf = ({ uid }, last = parts.get("undo")) => last?.uid === uid && button(`${last.made} · Undo`,
-    () => undo(last), { class: "made", disabled: !maySend() });
+    () => undo(last), { class: "made", disabled: !mayUndo() });
 
 // The switch by which a fixture shows itself.
 export function identifier(found, size = "") {
@@ -176,11 +177,11 @@ export function differencesOf({ differences: all }) {
     const count = (wanted) => all.filter(({ kind }) => kind === wanted).length;
     const missing = count("missing"), overlaps = count("overlap");
     return [missing && `${missing} missing`, plural(all.length - missing - overlaps, "difference"),
-        overlaps && plural(overlaps, "overlap")].filter(Boolean).join(", ");
+        overlaps && `${plural(overlaps, "overlap")} on the line now`].filter(Boolean).join(", ");
 }
 
 function tools(all, shown) {
-    const missing = all.filter((found) => found.missing).length, file = parts.get("file");
+    const missing = absent().length, file = parts.get("file"), found = all.filter((each) => !each.missing).length;
     return make("div", { class: "tools" },
         button("Identify next", walkInTable, { class: "main", disabled: !maySend() || !shown.length }),
         make("input", { type: "search", placeholder: "label, UID, model …", "aria-label": "Show only",
@@ -190,7 +191,7 @@ function tools(all, shown) {
         Object.entries(COLUMNS).map(([value, title]) => make("option", { value },
             `sort: ${value === "uid" ? title : value}`))),
         make("p", { class: "count", role: "status" }, (isUnderWay() ? "a discovery runs" : missing
-            ? `${all.length - missing} found, ${missing} missing` : plural(all.length, "fixture"))
+            ? `${found} found, ${missing} missing` : plural(all.length, "fixture"))
             + (shown.length === all.length ? "" : `, ${shown.length} shown`)),
         file && make("a", { href: addressOf("file") }, `${file.name}: ${differencesOf(file)}`));
 }
@@ -202,8 +203,8 @@ export function view() {
     const heads = Object.entries(COLUMNS).map(([column, title]) => head(button(title, () => sortBy(column)),
         orderOf(column)));
     const none = ["No fixture so far: ", make("a", { href: addressOf("discovery") }, "Discovery"), " says more."];
-    return [alarm(), tools(all, shown), make("p", { class: "sending" }, all.length ? mayUse() && `${SENDING} ${WALKING}`
-        : none),
+    const help = `${SENDING} ${parts.get("line")?.paused ? PAUSED : WALKING}`;
+    return [alarm(), tools(all, shown), make("p", { class: "sending" }, all.length ? mayUse() && help : none),
         make("table", { class: "rig" }, make("thead", {}, make("tr", {}, head("Identify"), heads, head("Note"),
             head("More"))), make("tbody", {}, shown.map(rowOf)))];
 }
