@@ -52,7 +52,7 @@ RULES = {
     "a finger or a mouse hits it": rule("""const least = innerWidth < 700 ? 44 : 24;
         return seen("button, input, select, nav a, .more, .back, summary").filter((each) => {
         const box = each.getBoundingClientRect(), isPiece = each.matches(".piece");
-        return box.height < (isPiece ? Math.max(32, least) : least) || (box.width < 24 && !isPiece);
+        return box.height < (isPiece ? Math.max(32, least) : least) || box.width < (isPiece ? least : 24);
         }).map(said);"""),
     "nothing is wider than the screen": rule(
         "return document.documentElement.scrollWidth > innerWidth ? [document.documentElement.scrollWidth] : [];"),

@@ -50,7 +50,10 @@ class Findings(TestCase):
         for judgement, told, wanted in (
                 ("incomplete", bytes_of(SILENT), SILENT), ("incomplete", bytes_of(everyone), None),
                 ("complete", bytes_of(SILENT), None), ("complete", bytes_of(LEFT), LEFT),
-                ("incomplete", stray, None), ("complete", silent, RIGHT)):
+                ("incomplete", stray, None), ("complete", silent, RIGHT),
+                # A range that isn't settled begins with a UID that need be no device's.
+                ("incomplete", finding("gap", "not settled", uid=SILENT), None),
+                ("incomplete", finding("gap", "not settled", uid=LEFT), LEFT)):
             found = page_findings.findings_in(document([self.run_with(judgement, told)]))
             self.assertEqual([(uid if uid is None else uid_text(uid), each.text)
                               for uid, each in found.of_uids({parse_uid(LEFT)})], [(wanted, told["sentence"])])

@@ -291,8 +291,9 @@ class Fixtures(BrowserTestCase):
             self.assertEqual(bad, ["missing", "overlap", "overlap"])
             # The table says so, too, and leads there.
             seen.button("Fixtures")
-            seen.button("rig.csv: 1 missing, 3 differences, 2 overlaps")
+            seen.button("rig.csv: 1 missing, 3 differences, 2 overlaps on the line now")
             self.assertEqual(seen.texts("#chooser"), [])
+            self.assertIn("not in the file: Apply says which it ends.", seen.texts("main > p")[0])
             seen.button("Apply rig.csv …")
             seen.until("document.querySelector('.message')")
             self.assertEqual(seen.texts(".message p"), [APPLYING])
@@ -377,7 +378,8 @@ class OtherViews(BrowserTestCase):
             at = seen.page.value(f"""(() => {{ document.querySelector("{piece}").scrollIntoView({{block: "center"}});
                 const box = document.querySelector("{piece}").getBoundingClientRect();
                 return [box.left + 8, box.top + 8]; }})()""")
-            by_the_way, there = way(seen, 8, 8 + 17), way(seen, 8, 8 + 48)
+            # It is taken where its name is, which has no room in slot 8, the last one of its row.
+            by_the_way, there = way(seen, 9, 9 + 17), way(seen, 9, 9 + 48)
 
             def touch(kind: str, dx: float = 0, dy: float = 0) -> None:
                 points = [] if kind == "touchEnd" else [{"x": at[0] + dx, "y": at[1] + dy}]
@@ -398,6 +400,7 @@ class OtherViews(BrowserTestCase):
         with opened(size, "slots") as (seen, _, _rig):
             seen.until("document.querySelectorAll('button.crowded').length === 3")
             found = seen.page.value("""[...document.querySelectorAll("button.piece")].map((each) => {
+                each.scrollIntoView({ block: "center" });
                 const range = new Range();
                 range.selectNodeContents(each);
                 const { left, right, top, height } = range.getBoundingClientRect();
@@ -424,14 +427,22 @@ class OtherViews(BrowserTestCase):
             seen.page.value(f"document.querySelector(\"button[data-uid='{RIGHT}']\").focus()")
             for key in ("ArrowDown", "ArrowRight", "ArrowDown", "ArrowLeft", "ArrowLeft"):
                 seen.key(key)
-            self.assertEqual(seen.texts(".hint"), ["Front right: 8-14 → 71-77, free"])
-            # Above another one it is lifted, so that the other one is seen.
+            self.assertEqual(seen.texts(".hint"), ["Front right: 8-14 → 71-77, free. Enter sends it; "
+                                                   "Escape leaves it where it was."])
+            # Above another one it is lifted and low, so that both their names are seen.
             for key in ("ArrowUp", "ArrowUp", "Home"):
                 seen.key(key)
             lifted, below = seen.page.value(f"""[...document.querySelectorAll("button[data-uid='{RIGHT}'], "
                 + "button[data-uid='{LEFT}']")].map((each) => each.getBoundingClientRect().top)
                 .sort((one, other) => other - one)""")
             self.assertGreater(lifted - below, 6)
+            self.assertEqual(seen.page.value(f"""["{RIGHT}", "{LEFT}"].map((uid) => {{
+                const range = new Range();
+                range.selectNodeContents(document.querySelector(`button[data-uid='${{uid}}']`));
+                const {{ left, top, height }} = range.getBoundingClientRect();
+                return document.elementFromPoint(left + 9, top + height / 2).dataset.uid;
+            }})"""), [RIGHT, LEFT])
+            self.assertTrue(seen.texts(".hint")[0].endswith(" Enter asks; Escape leaves it where it was."))
             seen.key("Escape")
             self.assertIn("Drag a fixture", seen.texts(".hint")[0])
             for _ in range(3):
@@ -466,9 +477,10 @@ class OtherViews(BrowserTestCase):
             seen.page.value(f"document.querySelector(\"{away}\").focus()")
             seen.key("ArrowRight")
             seen.page.value(f"document.querySelector(\"button[data-uid='{RIGHT}']\").focus()")
-            for key in ["ArrowDown"] * (6 if size == PHONE else 3) + ["ArrowLeft"] * 5:
+            for key in ["ArrowDown"] * (12 if size == PHONE else 3) + ["ArrowLeft"] * 5:
                 seen.key(key)
-            self.assertEqual(seen.texts(".hint"), ["Front right: 8-14 → 99-105, overlaps Back truss (missing)"])
+            self.assertIn("Front right: 8-14 → 99-105, overlaps “Back truss (missing)”. Enter asks; ",
+                          seen.texts(".hint")[0])
             seen.key("Enter")
             seen.until("document.querySelector('.message')?.innerText.includes('Back truss (missing) 100')")
             seen.button("Cancel")
@@ -488,12 +500,14 @@ class OtherViews(BrowserTestCase):
         if program() is None:
             self.skipTest("needs the proved program")
         liar = {"uid": "4444:00000001", "rig": {"label": "Liar", "lies": ["wrong sum"]}}
-        with opened(size, "discovery", devices=[liar]) as (seen, web, _):
+        with opened(size, "discovery", devices=[liar]) as (seen, web, rig):
             web.call("load", name="rig.csv", text="uid,label\n1234:00000099,Lost\n")
             seen.button("Discover")
             sections = "Object.fromEntries([...document.querySelectorAll('main section')].map((each) => " \
                        "[each.firstChild.textContent, each.lastChild.textContent]))"
-            seen.until(f"{sections}['Missing']?.includes('Lost (1234:00000099) ')")
+            seen.until(f"{sections}['Missing']?.includes('Lost (1234:00000099) ')"
+                       f" && !{sections}['Missing'].includes(\"wasn't found\")"
+                       f" && {sections}['Fixtures that did something wrong']")
             found = seen.page.value(sections)
             self.assertIn("4444:00000001 ", found["Fixtures that did something wrong"])
             self.assertNotIn("4444:00000001", found["Missing"])
@@ -504,7 +518,17 @@ class OtherViews(BrowserTestCase):
                 seen.until("document.querySelector('.result.bad a')")
                 said = seen.texts(".result.bad")[0]
                 self.assertTrue(said.startswith("Take 4444:00000001 off the line, and discover again. "), said)
-                self.assertTrue(said.endswith(" Missing: Lost. Discovery says more."), said)
+                self.assertIn(" Missing: “Lost” (in the file, not in the list). Discovery says more.", said)
+            # One that was there before is missing, too: the sentence, the count and the discovery agree.
+            rig.gone.add(rig.fixtures[2].uid)
+            web.call("discover")
+            seen.button("Fixtures")
+            seen.until(f"document.querySelector(\"{row(BACK)}.missing\")")
+            seen.until("document.querySelector('.count')?.textContent === '4 found, 2 missing'")
+            self.assertTrue(seen.texts(".result.bad")[0].endswith(
+                " Missing: “Back truss”, “Lost” (in the file, not in the list). Discovery says more."))
+            seen.button("Discovery")
+            seen.until(f"{sections}['Missing']?.includes('Back truss (') && {sections}['Missing'].includes('Lost (')")
 
     @at_each_size
     def test_the_line(self, size: Tuple[int, int]) -> None:
@@ -516,10 +540,15 @@ class OtherViews(BrowserTestCase):
             seen.button("Pause RDM")
             self.assertEqual(seen.texts(".message p"), ["This holds the RDM requests of other programs, too: console."])
             seen.button("Pause them, too")
-            seen.until("document.querySelector('#status')?.textContent.endsWith(' · paused: no RDM request is sent')")
+            seen.until("document.querySelector('#status')?.textContent.endsWith(' · paused: no RDM request is sent '"
+                       " + 'Resume it in Line')")
             program.say({"do": "get", "uid": LEFT, "pid": "0081"})
             seen.until("document.querySelector('main')?.textContent.includes('when this page is closed: 1 request "
-                       "waits. A pause holds RDM requests alone; it stops no DMX.')")
+                       "waits. A pause holds all RDM requests, ' + \"this page's own, too, until Resume is pressed "
+                       "here; it stops no DMX.\")")
+            # Each view leads to where it is resumed.
+            seen.button("Fixtures")
+            seen.button("Resume it in Line")
             seen.button("Resume")
             program.next("status")
             seen.until("document.querySelector('tr .command')?.textContent === 'GET 1234:00000001 manufacturer_label'")

@@ -11,7 +11,8 @@ from web_pages import (
 )
 from wurstlinen.tool.places import program
 
-WAITS = f"document.querySelector(\"{row(RIGHT)} .note\")?.textContent.includes('waits for the end of the pause')"
+WAITS = f"document.querySelector(\"{row(RIGHT)} .note\")?.textContent.includes(" \
+        "\"waits until RDM is resumed, and can't be taken back before\")"
 SECTIONS = "Object.fromEntries([...document.querySelectorAll('main section')].map((each) => " \
            "[each.firstChild.textContent, each.lastChild.textContent]))"
 
@@ -25,6 +26,8 @@ class Clear(BrowserTestCase):
     def test_a_change_in_a_pause_isnt_done(self, size: Tuple[int, int]) -> None:
         with opened(size) as (seen, web, _), web.follow() as events:
             seen.until(f"document.querySelector(\"{row(RIGHT)} .address\")?.value === '8'")
+            web.call("change", uid=LEFT, column="label", value="Wash left")
+            seen.until("document.querySelector('#undo:enabled') && document.querySelector('.made:enabled')")
             web.call("pause", on=True)
             seen.until("document.querySelector('#status').className === 'bad'")
             seen.click(f"{row(RIGHT)} .address")
@@ -34,9 +37,13 @@ class Clear(BrowserTestCase):
             # It has the focus, and is seen to wait.
             style = f"getComputedStyle(document.querySelector(\"{row(RIGHT)} .address\")).outlineStyle"
             self.assertEqual(seen.page.value(style), "dashed")
+            # Nothing seems to take it back.
+            self.assertEqual(seen.page.value("document.querySelectorAll('#undo:enabled, .made:enabled').length"), 0)
+            self.assertTrue(seen.texts(".sending")[0].endswith(
+                " RDM is paused: what you send, Identify and Stop wait until it is resumed. Undo waits for that, too."))
             web.call("pause", on=False)
             events.until(lambda parts: parts[f"fixture/{RIGHT}"]["address"] == 60)
-            seen.until(f"!({WAITS})")
+            seen.until(f"!({WAITS}) && document.querySelector('#undo:enabled')")
 
     @at_each_size
     def test_new_fixtures_that_are_all_at_one_address(self, size: Tuple[int, int]) -> None:
@@ -71,12 +78,29 @@ class Clear(BrowserTestCase):
     def test_what_is_selected_by_a_finger(self) -> None:
         with opened(PHONE, "slots") as (seen, _, _rig):
             seen.until(f"document.querySelector(\"button[data-uid='{HOUSE}']\")")
-            self.assertEqual(seen.texts(".hint"), ["Tap a fixture to select it, and then drag it."])
-            self.assertGreaterEqual(seen.page.value("document.querySelector('.universe i').offsetWidth"), 24)
+            self.assertEqual(seen.texts(".hint"), ["Tap a fixture to select it. Then drag it, or type its address."])
+            self.assertGreaterEqual(seen.page.value("document.querySelector('.universe i').offsetWidth"), 44)
             seen.tap(f"button[data-uid='{HOUSE}']")
-            seen.until("document.querySelector('.hint').textContent === 'House lights, 1: drag it.'")
+            seen.until("document.querySelector('.hint').textContent === "
+                       "'House lights, 1: drag it, or type its address.'")
             style = f"getComputedStyle(document.querySelector(\"button[data-uid='{HOUSE}']\")).outlineStyle"
             self.assertEqual(seen.page.value(style), "solid")
+            # A finger that lets go over the old place moves nothing.
+            own, other = ([*seen.page.value("(({left, top}) => [left + 8, top + 8])"
+                                            f"(document.querySelector(\"{what}\").getBoundingClientRect())")]
+                          for what in (f"button[data-uid='{HOUSE}']", ".universe i:nth-of-type(25)"))
+            for kind, place in (("touchStart", own), ("touchMove", other), ("touchMove", own), ("touchEnd", None)):
+                points = [{"x": place[0], "y": place[1]}] if place else []
+                seen.page.call("Input.dispatchTouchEvent", type=kind, touchPoints=points)
+                if place is other:
+                    seen.until("document.querySelector('.hint').textContent === 'House lights: 1 → 25, free. "
+                               "Letting go sends it; over its old place, in yellow, leaves it.'")
+                    self.assertEqual(seen.page.value("document.querySelectorAll('.universe .old').length"), 1)
+            self.assertEqual(seen.texts(".message"), [])
+            # One that is farther away than the screen is typed.
+            seen.until("document.querySelector('.hint a')")
+            seen.tap(".hint a")
+            seen.until("document.querySelector('.field .address')?.value === '1'")
 
     def test_what_overlaps_no_longer_while_it_is_moved(self) -> None:
         with opened(DESK, "slots") as (seen, _, _rig):
@@ -161,7 +185,7 @@ class Clear(BrowserTestCase):
             rig.gone.add(rig.fixtures[2].uid)
             web.call("load", name="rig.csv", text=f"uid,address\n{LEFT},20\n4444:00000004,101\n")
             web.call("discover")
-            seen.until("document.querySelector('.count')?.textContent === '4 found, 1 missing'")
+            seen.until("document.querySelector('.count')?.textContent === '4 found, 2 missing'")
             for view, alone in (("fixtures", ".tools a"), ("file", ""), ("discovery", "main > div > p a")):
                 seen.page.value(f"location.hash = location.hash.split('/')[0] + '/{view}'")
                 seen.until(f"document.querySelector('main.{view} a')")

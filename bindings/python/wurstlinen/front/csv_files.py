@@ -60,6 +60,11 @@ class Change:
         """The change, for people."""
         return f"{self.uid}  {self.column}  {written(self.before)} -> {written(self.after)}"
 
+    @property
+    def reversed(self) -> Change:
+        """What takes the change back."""
+        return Change(self.uid, self.column, self.after, self.before)
+
 
 def show(change: Change, output: Output) -> None:
     """Prints a change."""

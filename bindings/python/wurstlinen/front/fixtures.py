@@ -186,6 +186,13 @@ def values_of(work: Work, fixture: Fixture, name: str, data: bytes = b"") -> Opt
     return reading.values
 
 
+def identifies_of(work: Work, uid: Uid) -> Optional[bool]:
+    """Whether a device shows itself; None if it doesn't say."""
+    values = values_of(work, Fixture(uid), "identify_device") or {}
+    found = next(iter(values.values()), None)
+    return found if isinstance(found, bool) else None
+
+
 def note_of(name: str, failure: Failure) -> List[str]:
     """What a failure says of a device. Only DEVICE_INFO has to be there."""
     if failure.status != REFUSED:

@@ -7,9 +7,12 @@ from __future__ import annotations
 import enum
 import json
 from dataclasses import dataclass
-from typing import AbstractSet, Any, Dict, Iterator, List, Optional, Sequence, Tuple
+from typing import AbstractSet, Any, Dict, Iterator, List, Optional, Sequence, Set, Tuple
 
+from .. import Uid
 from ..lines.uids import is_broadcast, parse_uid
+from ..tool.places import program
+from .discovery_log import explanation
 
 NO_FAULT = "no fault"
 NO_RUN = "no run"
@@ -38,8 +41,11 @@ OUTCOMES = {
     Outcome.FAILED: ("The discovery failed.", "{} of {} discoveries failed."),
 }
 BROKEN, UNBROKEN, NO_DISCOVERY = "A rule was broken.", "No broken rule was seen.", "No discovery."
-# The judgements by which a rule was broken, whichever devices are there; and the one on a listed device.
-BREAKS, BROKE, GARBLED = ("stray", "unmuted", "garbled"), "broke", "garbled"
+# The judgements by which a rule was broken, whichever devices are there; the one on a listed device, if only by
+# silence; and the one on a device that did all as it should.
+BREAKS, BROKE, GARBLED, GOOD = ("stray", "unmuted", "garbled"), "broke", "garbled", "found"
+# The judgement on a part of the certificate that fails, which may be about a range of UIDs.
+GAP = "gap"
 # The judgements on bytes that read as a device's, which need not have sent them.
 STRAY = ("stray", "unexplained")
 NOTHING_ELSE = "nothing else can be on this line if it is honest"
@@ -91,13 +97,14 @@ class Findings:
     def of_uids(self, expected: AbstractSet[int]) -> Iterator[Tuple[Optional[int], Finding]]:
         """The findings but the first of each run, each with the UID whose device it is about, if there is one.
 
-        No device has a broadcast UID. After a complete discovery, bytes after an unexpected UID are no device's.
+        No device has a broadcast UID. Where an unsettled range begins there need be none. After a complete discovery,
+        bytes after an unexpected UID are no device's.
         """
         is_complete = all(run.outcome is Outcome.COMPLETE for run in self.runs)
         for each in self.all:
             uid = None if each.judgement in STRAY else each.uid
-            is_noise = is_complete and each.judgement == GARBLED and uid not in expected
-            if uid is not None and (is_noise or is_broadcast(uid)):
+            is_nobody = each.judgement == GAP or (is_complete and each.judgement == GARBLED)
+            if uid is not None and ((is_nobody and uid not in expected) or is_broadcast(uid)):
                 uid = None
             if not each.is_head:
                 yield uid, each
@@ -135,6 +142,29 @@ def findings_in(text: bytes) -> Findings:
         return Findings(runs, findings, found.get("broken", False), found.get("fault"))
     except (ValueError, TypeError, KeyError, IndexError, AttributeError, RecursionError) as fault:
         raise NoFindings(f"{type(fault).__name__}: {fault}") from None
+
+
+def findings_of(log: Sequence[str], expected: Sequence[Uid], found: Set[Uid]
+                ) -> Tuple[Optional[Findings], Dict[Uid, str], Dict[str, Any]]:
+    """What a discovery's log shows of devices that should be on the line, and what pages show of that."""
+    place = program()
+    try:
+        if place is None:
+            raise NoFindings("the proved program isn't installed")
+        said = findings_in(explanation(place, log, expected, "--json")[1])
+        if said.fault is not None:
+            raise NoFindings(said.fault)
+    except (OSError, NoFindings) as fault:
+        return None, {}, {"others": [f"why a fixture is missing can't be said: {fault}"]}
+    about = [(None if number is None else Uid.from_number(number), each)
+             for number, each in said.of_uids({uid.number for uid in expected})]
+    reasons = {uid: each.text.removeprefix(f"{uid} ") for uid, each in about if uid is not None}
+    good = {uid for uid, each in about if each.judgement == GOOD}
+    broken = {uid for uid, each in about if each.judgement == GARBLED or (each.judgement == BROKE and uid in found)}
+    bad = [{"uid": str(uid), "text": text, "is_broken": uid in broken} for uid, text in reasons.items()
+           if uid in broken or uid not in good]
+    return said, reasons, {"devices": bad, "others": [each.text for uid, each in about if uid is None],
+                           "is_broken": said.is_broken}
 
 
 def run_findings(run: Dict[str, Any], place: int) -> List[Finding]:

@@ -99,3 +99,14 @@ def message_keys(message: Optional[Message]) -> Optional[Dict[str, Any]]:
         return None
     return {"sub_devices": message.sub_devices.value, "takes": field_lines(message.request),
             "returns": field_lines(message.response)}
+
+
+def field_keys(field: Field, value: Any) -> Dict[str, Any]:
+    """A field for a page, with its choices if it has only a few values."""
+    hint = f"{'; '.join(field_lines((field,)))}; separated by blanks" if isinstance(field, Group) else type_text(field)
+    choices = list(field.labels.values()) if isinstance(field, Number) and not field.valid else []
+    if isinstance(field, Flag):
+        choices, value = ["yes", "no"], "yes" if value else "no"
+    return {"name": field.name.replace("_", " "), "hint": "" if choices else hint, "choices": choices,
+            "unit": field.unit if isinstance(field, Number) else "", "is_list": isinstance(field, Group),
+            "value": "" if value is None or isinstance(value, (list, dict)) else format(value)}

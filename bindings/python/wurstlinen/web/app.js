@@ -13,23 +13,28 @@ const TITLES = { fixtures: "Fixtures", slots: "Slots", file: "File", discovery: 
 const MESSAGE_TIME = 6_000;
 // A press that was meant for what was there before a question comes sooner.
 const DEAF_TIME = 600;
-// What is under way, by names.
-export const busy = new Set();
+// What is under way, by names; for an input, the value that is on its way.
+export const busy = new Map();
 let message = null, place = "";
 
 export const addressOf = (view, rest = "") => `#${token}/${view}${rest ? `/${rest}` : ""}`;
 
-// Says what happened. What went wrong stays until somebody has read it.
+// Says what happened. What went wrong stays until somebody has read it, with what is said meanwhile.
 export function say(text, { isBad = false, actions = [] } = {}) {
-    const said = message = { text, isBad, actions, from: document.activeElement, isDeaf: true };
+    const from = document.activeElement, unread = message?.isBad ? message : { text: "", actions };
+    const said = message = { text: [...new Set([unread.text, text].join("\n").trim().split("\n"))].join("\n"), from,
+        isBad: isBad || unread.isBad, actions: actions.length ? actions : unread.actions, isDeaf: true };
     draw();
-    if (actions.length) {
-        // A question is where keys are.
+    if (actions.length && !(from.matches("input, select") && (from.isTyped || !busy.has(from.name)))) {
+        // A question is where keys are, unless these are in a field that hasn't to do with it.
         document.querySelector("#messages button:last-child").focus();
-        setTimeout(() => (said.isDeaf = false, draw()), DEAF_TIME);
-    } else if (!isBad) {
+    } else if (!said.isBad && !said.actions.length) {
         setTimeout(() => message === said && close(), MESSAGE_TIME);
     }
+    setTimeout(() => (said.isDeaf = false, draw()), DEAF_TIME);
+    // What it is about stays in sight.
+    const about = from.closest("tr, label")?.getBoundingClientRect().bottom ?? 0;
+    scrollBy(0, Math.max(0, about - document.querySelector(".message").getBoundingClientRect().top));
 }
 
 function close() {
@@ -39,8 +44,8 @@ function close() {
 }
 
 // Shows that something is under way.
-export async function busily(name, work) {
-    redraw(busy.add(name));
+export async function busily(name, work, value = null) {
+    redraw(busy.set(name, value));
     await work();
     redraw(busy.delete(name));
 }
@@ -55,7 +60,7 @@ export async function asked(name, keys) {
     return answer.error ? void say(fixtures.named(answer.error), { isBad: true }) : answer;
 }
 
-// Does something, and says how it ended. If slots would overlap, it is done only if that is wanted.
+// Does something, says how it ended, and returns whether it was done. If slots would overlap, that is a question first.
 export async function act(name, keys, done = "") {
     const answer = await asked(name, keys);
     const { made = 0, failures = [], problems = [] } = answer ?? {};
@@ -72,7 +77,7 @@ export async function act(name, keys, done = "") {
     } else if (answer && done) {
         say(done);
     }
-    return Boolean(answer) && !failures.length;
+    return Boolean(answer) && !failures.length && (made > 0 || !problems.length);
 }
 
 function statusText(now) {
@@ -84,7 +89,8 @@ function statusText(now) {
                     : `No line: ${now.reason}`;
 }
 
-// Takes the last change back, where that is said.
+// Takes the last change back, where that is said. In a pause it isn't the last: another one may wait.
+export const mayUndo = () => maySend() && !parts.get("line").paused;
 export const undo = ({ text, back }) => act("undo", { text }, `Undone: ${back}.`);
 
 function header(name) {
@@ -94,9 +100,10 @@ function header(name) {
     const stop = all.length > 0 && button(`${all.length} ${all.length > 1 ? "identify" : "identifies"} · Stop`, () =>
         all.forEach(({ uid }) => act("identify", { uid, on: false })), { id: "stop", disabled: !maySend() });
     return make("header", {}, make("h1", {}, "Wurstlinen"),
-        make("p", { id: "status", role: "status", class: classes(isBad && "bad") }, statusText(now)),
+        make("p", { id: "status", role: "status", class: classes(isBad && "bad") }, statusText(now),
+            now?.paused && !lost && make("a", { href: addressOf("line") }, " Resume it in Line")),
         stop, button(last ? `Undo (${last.count})` : "Undo", () => say(`Undo: ${last.back}?`, { actions: [{ text:
-            "Undo", act: () => undo(last) }] }), { id: "undo", disabled: !maySend() || !last }),
+            "Undo", act: () => undo(last) }] }), { id: "undo", disabled: !mayUndo() || !last }),
         make("nav", { "aria-label": "Views" }, Object.entries(TITLES).map(([each, title]) => make("a",
             { href: addressOf(each), "aria-current": each === name ? "page" : null }, title))));
 }

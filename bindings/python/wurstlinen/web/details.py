@@ -6,13 +6,12 @@ from typing import Any, Dict, Sequence
 
 from .. import Uid
 from ..front.naming import pid_of, raw_parameter
-from ..front.pids import field_lines, type_text
+from ..front.pids import field_keys
 from ..front.requests import data_of
 from ..front.showing import CHOICES, Shown
 from ..front.work import Work
 from ..parameters import Parameter
 from ..parameters.decoding import Values
-from ..parameters.fields import Field, Flag, Group, Number
 from ..parameters.words import name_of
 from .hands import Board
 from .rig import Rig
@@ -35,20 +34,9 @@ def form_of(parameter: Parameter, values: Values) -> Dict[str, Any]:
     # The number of a list's entry that is in use has another name where it is set.
     now = list(values.values())[:1] if parameter.number in CHOICES else []
     return {"parameter": parameter.name, "about": parameter.about,
-            "fields": [field_of(field, now[0] if now else values.get(field.name)) for field in fields],
+            "fields": [field_keys(field, now[0] if now else values.get(field.name)) for field in fields],
             # What can only be set does something.
             "acts": parameter.get is None or not fields}
-
-
-def field_of(field: Field, value: Any) -> Dict[str, Any]:
-    """A field for a page, with its choices if it has only a few values."""
-    hint = f"{'; '.join(field_lines((field,)))}; separated by blanks" if isinstance(field, Group) else type_text(field)
-    choices = list(field.labels.values()) if isinstance(field, Number) and not field.valid else []
-    if isinstance(field, Flag):
-        choices, value = ["yes", "no"], "yes" if value else "no"
-    return {"name": field.name.replace("_", " "), "hint": "" if choices else hint, "choices": choices,
-            "unit": field.unit if isinstance(field, Number) else "", "is_list": isinstance(field, Group),
-            "value": "" if value is None or isinstance(value, (list, dict)) else format(value)}
 
 
 class Details:

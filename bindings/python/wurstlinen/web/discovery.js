@@ -15,15 +15,22 @@ function resultText(last) {
 }
 
 const isBad = (last) => Boolean(last?.fault || last?.is_broken);
+const said = () => parts.get("discovery")?.devices ?? [];
 const labelOf = (uid) => parts.get("file")?.differences.find((each) => each.uid === uid)?.label;
-// Those of the file that is loaded, too.
-const neverFound = (last) => (last?.devices ?? []).filter((each) => !each.is_broken && !fixtureOf(each.uid));
+// Those that are missing: of the list, and then those of the file that is loaded which aren't in the list.
+export function absent() {
+    const planned = (parts.get("file")?.differences ?? []).filter(({ kind, uid }) => kind === "missing"
+        && !fixtureOf(uid)).map((each) => ({ ...each, ...said().find(({ uid }) => uid === each.uid) }));
+    return [...partsOf("fixture/").filter((found) => found.missing).map((found) => ({ ...found, text: found.missing })),
+        ...planned.filter((each) => !each.is_broken)];
+}
 
 // What other views say of a discovery that is incomplete.
 export function alarm() {
-    const last = parts.get("discovery"), absent = neverFound(last).map(({ uid }) => labelOf(uid) || uid).join(", ");
+    const last = parts.get("discovery"), names = absent().map((each) => `“${nameOf(each) || each.uid}”`
+        + (each.kind ? " (in the file, not in the list)" : "")).join(", ");
     return isBad(last) && make("p", { class: "result bad" }, `${resultText(last)} `,
-        absent && `Missing: ${absent}. `, make("a", { href: addressOf("discovery") }, "Discovery"), " says more.");
+        names && `Missing: ${names}. `, make("a", { href: addressOf("discovery") }, "Discovery"), " says more.");
 }
 
 // Whether one is under way, of this page or of another program. Once its result is shown it has ended.
@@ -46,9 +53,7 @@ function section(title, items) {
 }
 
 export function view() {
-    const last = parts.get("discovery"), said = last?.devices ?? [];
-    const missing = [...partsOf("fixture/").filter((found) => found.missing).map((found) => ({ uid: found.uid,
-        text: found.missing })), ...neverFound(last)];
+    const last = parts.get("discovery");
     const address = last?.picture && `/picture/${last.picture}`;
     const begin = button(last?.runs ? "Discovering …" : "Discover", () => act("discover", {}), { class: "main",
         disabled: !maySend() || Boolean(last?.runs) });
@@ -56,8 +61,8 @@ export function view() {
         make("p", { class: "sending" }, "Once it has begun, nothing stops it: it ends by itself.")),
         make("p", { role: "status" }, progressText(parts.get("progress"), last)),
         make("p", { class: classes("result", isBad(last) && "bad") }, last && !last.runs && resultText(last)),
-        section("Fixtures that did something wrong", said.filter((each) => each.is_broken)),
-        section("Missing", missing), section("Also seen", (last?.others ?? []).map((text) => ({ text }))),
+        section("Fixtures that did something wrong", said().filter((each) => each.is_broken)),
+        section("Missing", absent()), section("Also seen", (last?.others ?? []).map((text) => ({ text }))),
         address && make("div", { key: address }, make("p", {}, make("a", { href: address, target: "_blank",
             rel: "noopener" }, "The picture in a tab of its own")), make("iframe", { sandbox: "allow-scripts",
             title: "The picture of the last discovery", src: address }))];

@@ -1,7 +1,7 @@
 // Describes elements, and has them shown. All that comes from fixtures is text, and never HTML.
 
-// An element that is wanted. With a `key` it is the same one in whichever place; `shown` is what an input shows while
-// nobody types in it. null, false and "" are no children.
+// An element that is wanted. With a `key` it is the same one in whichever place; `shown` is what an input shows unless
+// something else is typed in it. null, false and "" are no children.
 export const make = (kind, attributes = {}, ...children) => ({ kind, attributes, children: children.flat() });
 
 export const button = (text, onclick, attributes = {}) => make("button", { type: "button", onclick, ...attributes },
@@ -24,18 +24,24 @@ function set(element, name, value) {
     }
 }
 
+// What is typed in an input, or chosen, is its own until it is sent or taken back.
+document.addEventListener("input", ({ target }) => (target.isTyped = true));
+
 function update(node, wanted) {
     if (!wanted.kind) {
         return void (node.data === wanted || (node.data = wanted));
     }
     const { key, shown = null, ...attributes } = wanted.attributes, before = node.attributesShown ?? {};
+    // Who types isn't thrown out, and what is sent in vain is said to be.
+    attributes.disabled &&= !node.isTyped;
     Object.entries(attributes).filter(([name, value]) => before[name] !== value).forEach((each) => set(node, ...each));
     node.attributesShown = attributes;
     show(node, wanted.children);
-    if (shown !== null) {
-        const isTyped = node === document.activeElement && node.value !== node.valueShown;
-        node.value = isTyped ? node.value : shown;
-        node.valueShown = shown;
+    if (shown !== null && !node.isTyped && node.value !== shown) {
+        // What is selected is about to be typed over.
+        const isSelected = node.selectionEnd - node.selectionStart === node.value.length;
+        node.value = shown;
+        isSelected && node === document.activeElement && node.select();
     }
 }
 
@@ -49,7 +55,11 @@ export function show(parent, children) {
             update(now.get(name), wanted);
         }
     });
-    [...before].filter(([name]) => !now.has(name)).forEach(([, node]) => node.remove());
+    [...before].filter(([name]) => !now.has(name)).forEach(([, node]) => {
+        // Who is in it leaves it, which sends what is typed.
+        node.contains(document.activeElement) && document.activeElement.blur();
+        node.remove();
+    });
     // A browser takes the focus from what is moved, so while somebody uses one of them their order stays.
     const isHeld = () => parent.contains(document.activeElement)
         && document.activeElement.matches("input, select, .piece");

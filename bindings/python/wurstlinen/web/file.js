@@ -38,7 +38,8 @@ async function look() {
 
 function differences(file) {
     const { name, rows, note, differences: found } = file;
-    return [make("p", {}, `${name} has ${plural(rows, "fixture")}; ${found.length ? `${differencesOf(file)}:`
+    return [make("p", {}, `${name} has ${plural(rows, "fixture")}; ${found.length ? differencesOf(file)
+        + (found.some(({ kind }) => kind === "overlap") ? ", not in the file: Apply says which it ends." : ":")
         : "nothing differs."}`), make("p", {}, note),
     make("ul", { class: "differences" }, found.map(({ kind, uid, label, text }) => make("li", { class: classes(
         ["missing", "overlap", "end"].includes(kind) && "bad") }, make("b", {}, `${kind}: `), linked(uid, label),

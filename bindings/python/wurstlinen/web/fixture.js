@@ -1,53 +1,60 @@
 // One fixture: on a phone it fills the screen. What `show` shows, and what can be set.
-import { act, addressOf, busily, busy, say } from "/app.js";
+import { act, addressOf, busily, busy, redraw, say } from "/app.js";
 import { button, classes, make } from "/dom.js";
-import { SENDING, changeOf, editor, identifier, nameOf, notesOf, ordered, remarksOf, slotsOf, walk }
+import { SENDING, changeOf, editor, identifier, nameOf, notesOf, ordered, remarksOf, send, slotsOf, valueOf, walk }
     from "/fixtures.js";
 import { fixtureOf, maySend, mayUse, parts } from "/server.js";
 
 // The fixture that was asked for all by this page.
 let asked = "";
 
-// Goes to a fixture beside this one, which shows itself if this one did.
+// Goes to a fixture beside this one, which shows itself if this one did, unless somebody goes elsewhere or types.
 async function go(uid, by) {
-    const all = ordered().map((found) => found.uid);
+    const all = ordered().map((found) => found.uid), here = location.hash;
     const next = fixtureOf(uid)?.identifies && maySend() ? await walk(uid, by) : all[all.indexOf(uid) + by];
-    location.hash = next ? addressOf("fixture", next) : location.hash;
+    const isHere = location.hash === here && !document.activeElement.isTyped;
+    location.hash = next && isHere ? addressOf("fixture", next) : location.hash;
 }
 
 function fieldOf({ name, unit, hint, choices, value }) {
     return make("label", {}, `${[name, unit].filter(Boolean).join(", ")} `, choices.length
-        ? make("select", {}, choices.map((each) => make("option", { selected: each === value }, each)))
-        : make("input", { value, autocomplete: "off", spellcheck: "false" }),
+        ? make("select", { shown: value }, choices.map((each) => make("option", {}, each)))
+        : make("input", { shown: value, autocomplete: "off", spellcheck: "false" }),
     make("small", {}, hint));
 }
 
 // A form for a parameter. What it does at once is a question first.
 function formOf(uid, { parameter, about, acts, fields }) {
     const title = parameter.replaceAll("_", " ");
-    const send = ({ target }) => {
-        const values = [...target.parentElement.querySelectorAll("input, select")].map((each) => each.value);
-        const words = fields.flatMap((field, at) => (field.is_list ? values[at].split(" ").filter(Boolean)
-            : [values[at]]));
-        const set = () => act("set", { uid, parameter, words }, `${title} was set, and the fixture read again.`);
+    const press = ({ target }) => {
+        const inputs = [...target.parentElement.querySelectorAll("input, select")];
+        const values = inputs.map((each) => each.value);
+        const words = fields.flatMap((each, at) => (each.is_list ? values[at].split(" ").filter(Boolean) : values[at]));
+        const set = async () => {
+            const isSet = await act("set", { uid, parameter, words }, `${title} was set, and the fixture read again.`);
+            // What was refused stays, and so does what was typed meanwhile.
+            inputs.forEach((each, at) => (each.isTyped &&= !isSet || each.value !== values[at]));
+            redraw();
+        };
         return acts ? say(`Really do it: ${title}?`, { actions: [{ text: "Do it", act: set }] }) : set();
     };
     return make("details", { class: "form" }, make("summary", {}, `Change ${title}`), make("p", {}, about),
-        fields.map(fieldOf), button(acts ? `Do it: ${title}` : "Set", send, { disabled: !maySend() }));
+        fields.map(fieldOf), button(acts ? `Do it: ${title}` : "Set", press, { disabled: !maySend() }));
 }
 
-// A section stays, with what somebody types in its forms, until it has other values.
+// A section stays, with what somebody types in its forms, whatever its values are. Some titles come again.
 function sectionOf(uid, name, rows, forms) {
     const found = rows.map(([title]) => (mayUse() && forms[title.replaceAll("_", " ")]) || null);
-    return make("section", { key: JSON.stringify([name, rows, found]) }, make("h3", {}, name),
-        make("dl", {}, rows.map(([title, text], at) => make("div", {}, make("dt", {}, title.replaceAll("_", " ")),
+    return make("section", { key: name }, make("h3", {}, name), make("dl", {}, rows.map(([title, text], at) =>
+        make("div", { key: rows.findIndex(([each]) => each === title) === at ? title : at },
+            make("dt", {}, title.replaceAll("_", " ")),
             make("dd", {}, text || (found[at] ? "" : "can't be shown here"), found[at] && formOf(uid, found[at]))))));
 }
 
 const readAll = (uid) => busily(`${asked = uid}/show`, () => act("show", { uid }));
 
-const nudge = ({ uid, address, missing }, text, by, where) => button(text, () => act("change", { uid, column: "address",
-    value: String(address + by) }), { class: "nudge", "aria-label": `Address one ${where}`,
+const nudge = ({ uid, address, missing }, text, by, where) => button(text, () => send(uid, "address",
+    String(Number(valueOf(uid, "address")) + by)), { class: "nudge", "aria-label": `Address one ${where}`,
     disabled: !maySend() || !address || Boolean(missing) });
 
 export function view(uid) {

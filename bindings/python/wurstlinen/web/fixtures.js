@@ -1,15 +1,15 @@
 // The table of fixtures, in which values are edited in place; and the walk along the truss.
-import { act, addressOf, busily, busy, busyAs, redraw, say, undo } from "/app.js";
-import { alarm, isUnderWay } from "/discovery.js";
+import { act, addressOf, busily, busy, busyAs, mayUndo, redraw, say, undo } from "/app.js";
+import { absent, alarm, isUnderWay } from "/discovery.js";
 import { button, classes, isTouched, make, plural } from "/dom.js";
 import { fixtureOf, maySend, mayUse, parts, partsOf } from "/server.js";
 
 const COLUMNS = { label: "Label", address: "Address", slots: "Slots", personality: "Personality", model: "Model",
     uid: "UID" };
-const MOST_NOTES = 2;
 export const SENDING = isTouched ? "Leaving a box sends what you typed; ✕ leaves it as it was."
     : "Enter, or leaving a field, sends what you typed; Escape restores it.";
 const WALKING = "Identify next stops the one before it; it goes through what is shown, in this order.";
+const PAUSED = "RDM is paused: what you send, Identify and Stop wait until it is resumed. Undo waits for that, too.";
 const chosen = { filter: "", column: "address", isDown: false };
 // The fixture to which this page's walk has come, which the page's program may not have shown so far.
 let walked = null;
@@ -49,10 +49,10 @@ export function freeFrom({ root, first, last }, wanted) {
 // What is wrong with a fixture, and what else is remarkable.
 export function notesOf({ uid, missing, notes }) {
     const problems = (parts.get("problems") ?? []).filter((each) => each.uid === uid || each.other === uid);
-    const waits = parts.get("line")?.paused && [...busy].some((name) => name.startsWith(uid));
-    return [waits && "waits for the end of the pause", missing && `missing: ${advice(missing)}`,
-        ...notes.map((each) => each.replaceAll("_", " ")), ...problems.map((each) => problemOf(each, uid))]
-        .filter(Boolean);
+    const waits = parts.get("line")?.paused && [...busy.keys()].some((name) => name.startsWith(uid));
+    return [waits && "waits until RDM is resumed, and can't be taken back before",
+        missing && `missing: ${advice(missing)}`, ...notes.map((each) => each.replaceAll("_", " ")),
+        ...problems.map((each) => problemOf(each, uid))].filter(Boolean);
 }
 
 export const remarksOf = ({ uid, root, is_slow: isSlow }) => [root === uid ? "" : `part of ${nameOf(fixtureOf(root))
@@ -66,7 +66,10 @@ export function ordered() {
     const keyOf = (found) => String(found[chosen.column] ?? "").toLowerCase();
     const textOf = (found) => [found.uid, found.label, found.model, found.manufacturer, found.address,
         ...notesOf(found), ...remarksOf(found)].join(" ").toLowerCase();
-    const wanted = partsOf("fixture/").filter((found) => words.every((word) => textOf(found).includes(word)));
+    // The row in which somebody types stays.
+    const held = document.activeElement.closest("tr")?.id;
+    const wanted = partsOf("fixture/").filter((found) => found.uid === held
+        || words.every((word) => textOf(found).includes(word)));
     const compare = new Intl.Collator("en", { numeric: chosen.column !== "uid" }).compare;
     const sign = chosen.isDown ? -1 : 1;
     // What isn't known comes last.
@@ -80,25 +83,40 @@ function personalitiesOf({ personality, personality_name: name, personalities, s
         `${each.number} ${each.name} (${plural(each.slots, "slot")})`));
 }
 
-// An input for a value. What is typed is sent, read back, and shown; what was refused comes back.
+// What a fixture has in a column, or will have if it refuses nothing that is on its way.
+export const valueOf = (uid, column) => busy.get(`${uid}/${column}`) ?? String(fixtureOf(uid)?.[column] ?? "");
+
+// Sends a value, which is read back and shown. What is sent meanwhile follows it; of several the last one.
+export function send(uid, column, value) {
+    const name = `${uid}/${column}`;
+    if (busy.has(name)) {
+        busy.set(name, value);
+    } else if (value !== valueOf(uid, column)) {
+        busily(name, async () => {
+            for (let last = null; last !== busy.get(name);) {
+                last = busy.get(name);
+                const before = fixtureOf(uid), isMade = await act("change", { uid, column, value: last });
+                // It was read back, of which the page hears a moment later.
+                before && isMade && before === fixtureOf(uid) && (before[column] = last);
+            }
+        }, value);
+    }
+}
+
+// An input for a value. What is typed is sent; what was refused comes back.
 export function editor(found, column) {
     const { uid } = found, name = `${uid}/${column}`, isChoice = column === "personality", isLabel = column === "label";
-    const known = () => String(fixtureOf(uid)?.[column] ?? "");
-    const send = async ({ target }) => {
-        if (target.value !== known() && !busy.has(name)) {
-            const value = isLabel ? target.value : target.value.trim();
-            await busily(name, () => act("change", { uid, column, value }));
-            target.value = known();
-        }
+    const leaveIt = ({ target: { value, isTyped }, target }) => {
+        redraw(target.isTyped = false);
+        isTyped && send(uid, column, isLabel ? value : value.trim());
     };
-    const restore = ({ target }) => (target.value = known());
-    const onkeydown = (event) => ({ Escape: restore, Enter: send })[event.key]?.(event);
-    // A phone has no Escape. What was typed is gone before the box is left.
-    const onpointerdown = (event) => (event.preventDefault(), restore({ target: event.target.previousSibling }));
-    const leave = button("✕", ({ target }) => target.previousSibling.blur(), { class: "leave", onpointerdown,
-        "aria-label": "Leave it as it was" });
-    return [make(isChoice ? "select" : "input", { ...busyAs(name, column), shown: busy.has(name) ? null : known(),
-        onkeydown, onchange: send, onblur: redraw, autocomplete: "off", spellcheck: "false",
+    const restore = ({ target }) => redraw(Object.assign(target, { value: valueOf(uid, column), isTyped: false }));
+    const onkeydown = (event) => ({ Escape: restore, Enter: leaveIt })[event.key]?.(event);
+    // A phone has no Escape. The box isn't left before what was typed is gone.
+    const leave = button("✕", ({ target: { previousSibling: target } }) => (restore({ target }), target.blur()),
+        { class: "leave", onpointerdown: (event) => event.preventDefault(), "aria-label": "Leave it as it was" });
+    return [make(isChoice ? "select" : "input", { ...busyAs(name, column), name, shown: valueOf(uid, column),
+        onkeydown, onchange: leaveIt, onblur: leaveIt, autocomplete: "off", spellcheck: "false",
         "aria-label": `${COLUMNS[column]} of ${nameOf(found)}`, inputmode: column === "address" ? "numeric" : null,
         maxlength: isLabel ? 128 : null, placeholder: isLabel && found.is_read
             ? [...new Set([nameOf(found), uid])].join(", ") : null,
@@ -109,7 +127,7 @@ export function editor(found, column) {
 
 // What was changed last, if it was here, and what takes it back.
 export const changeOf = ({ uid }, last = parts.get("undo")) => last?.uid === uid && button(`${last.made} · Undo`,
-    () => undo(last), { class: "made", disabled: !maySend() });
+    () => undo(last), { class: "made", disabled: !mayUndo() });
 
 // The switch by which a fixture shows itself.
 export function identifier(found, size = "") {
@@ -138,14 +156,13 @@ async function walkInTable() {
 }
 
 function rowOf(found) {
-    const { uid, missing, identifies } = found, notes = notesOf(found), others = notes.splice(MOST_NOTES).length;
-    const note = found.is_read || missing ? [...notes, ...(others ? [`and ${others} more`] : [])].join("; ")
-        : "is being asked …";
+    const { uid, missing, identifies } = found;
+    const note = found.is_read || missing ? notesOf(found).join("; ") : "is being asked …";
     const cells = { "of-identify": identifier(found), "of-label": editor(found, "label"),
         "of-address": editor(found, "address"), slots: slotsOf(found), "of-personality": editor(found, "personality"),
         model: [found.manufacturer, found.model].filter(Boolean).join(" "), uid,
-        note: [make("span", {}, note), " ", make("small", {}, remarksOf(found).join("; ")),
-            changeOf(found), missing && mayUse() && button("Remove from the list", () => act("forget", { uid }))],
+        note: [changeOf(found), missing && mayUse() && button("Remove from the list", () => act("forget", { uid })),
+            make("p", { title: note }, make("span", {}, note), " ", make("small", {}, remarksOf(found).join("; ")))],
         "of-more": make("a", { href: addressOf("fixture", uid), class: "more",
             "aria-label": `All about ${nameOf(found)}` }, "›") };
     return make("tr", { key: uid, id: uid, class: classes(missing && "missing", identifies && "identifies") },
@@ -160,21 +177,21 @@ export function differencesOf({ differences: all }) {
     const count = (wanted) => all.filter(({ kind }) => kind === wanted).length;
     const missing = count("missing"), overlaps = count("overlap");
     return [missing && `${missing} missing`, plural(all.length - missing - overlaps, "difference"),
-        overlaps && plural(overlaps, "overlap")].filter(Boolean).join(", ");
+        overlaps && `${plural(overlaps, "overlap")} on the line now`].filter(Boolean).join(", ");
 }
 
 function tools(all, shown) {
-    const missing = all.filter((found) => found.missing).length, file = parts.get("file");
+    const missing = absent().length, file = parts.get("file"), found = all.filter((each) => !each.missing).length;
     return make("div", { class: "tools" },
         button("Identify next", walkInTable, { class: "main", disabled: !maySend() || !shown.length }),
         make("input", { type: "search", placeholder: "label, UID, model …", "aria-label": "Show only",
             shown: chosen.filter, oninput: ({ target }) => choose({ filter: target.value }) }),
         make("select", { class: "narrow", "aria-label": "Sort by", shown: chosen.column,
-            onchange: ({ target }) => sortBy(target.value) },
+            onchange: ({ target }) => (target.isTyped = false, sortBy(target.value)) },
         Object.entries(COLUMNS).map(([value, title]) => make("option", { value },
             `sort: ${value === "uid" ? title : value}`))),
         make("p", { class: "count", role: "status" }, (isUnderWay() ? "a discovery runs" : missing
-            ? `${all.length - missing} found, ${missing} missing` : plural(all.length, "fixture"))
+            ? `${found} found, ${missing} missing` : plural(all.length, "fixture"))
             + (shown.length === all.length ? "" : `, ${shown.length} shown`)),
         file && make("a", { href: addressOf("file") }, `${file.name}: ${differencesOf(file)}`));
 }
@@ -186,8 +203,8 @@ export function view() {
     const heads = Object.entries(COLUMNS).map(([column, title]) => head(button(title, () => sortBy(column)),
         orderOf(column)));
     const none = ["No fixture so far: ", make("a", { href: addressOf("discovery") }, "Discovery"), " says more."];
-    return [alarm(), tools(all, shown), make("p", { class: "sending" }, all.length ? mayUse() && `${SENDING} ${WALKING}`
-        : none),
+    const help = `${SENDING} ${parts.get("line")?.paused ? PAUSED : WALKING}`;
+    return [alarm(), tools(all, shown), make("p", { class: "sending" }, all.length ? mayUse() && help : none),
         make("table", { class: "rig" }, make("thead", {}, make("tr", {}, head("Identify"), heads, head("Note"),
             head("More"))), make("tbody", {}, shown.map(rowOf)))];
 }

@@ -6,14 +6,13 @@ from io import StringIO
 from itertools import chain
 from typing import Any, Dict, Optional
 
-from ..front.checking import KINDS, MISSING, Difference, changed, crowded, missing
-from ..front.csv_files import COLUMNS, LABEL, MODEL, SLOTS, UID, RigFile, merged, rig_file, written
-from ..front.fixtures import FOOTPRINT_FIELD, Fixture
+from ..front.checking import KINDS, MISSING, Difference, changed, crowded, missing, saved
+from ..front.csv_files import COLUMNS, LABEL, SLOTS, RigFile, merged, rig_file
 from ..front.guarding import ADDRESS, problems_of
 from ..front.output import BAD_ARGUMENTS, Failure, Output
 from ..front.sheets import Sheet
 from .hands import SILENT, Board, failure_of
-from .rig import PREFIX, Plan, Rig, value_in
+from .rig import PREFIX, Plan, Rig
 
 MOST_NAME = 100
 
@@ -48,7 +47,7 @@ class Plans:
     def save(self) -> Dict[str, str]:
         """The fixtures as a file, with the other columns and devices of the one that is loaded."""
         before = Sheet([]) if self._file is None else self._file.sheet
-        rows = [row_of(fixture) for fixture in self._rig.fixtures() if fixture.info is not None]
+        rows = [saved(fixture) for fixture in self._rig.fixtures() if fixture.info is not None]
         return {"text": merged(before, rows, SILENT, keeps=True).text()}
 
     def apply(self, force: bool = False, dry: bool = False) -> Plan:
@@ -95,11 +94,3 @@ class Plans:
         column = found.keys["column"]
         now, planned = (self._rig.value_text(found.uid, column, found.keys[name]) for name in ("after", "before"))
         return f"{'at' if column == ADDRESS else column} {now}, file says {planned}"
-
-
-def row_of(fixture: Fixture) -> Dict[str, str]:
-    """A fixture as `save` writes it. What isn't known stays empty."""
-    values = {**{column: value_in(fixture, column) for column in COLUMNS}, MODEL: fixture.model or None,
-              SLOTS: fixture.number(FOOTPRINT_FIELD)}
-    return {UID: str(fixture.uid), **{column: "" if value is None else written(str(value))
-                                      for column, value in values.items()}}

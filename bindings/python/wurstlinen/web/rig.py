@@ -10,9 +10,9 @@ from typing import Any, Callable, Dict, List, Mapping, Optional, Sequence, Tuple
 
 from .. import Device, Uid
 from ..front.applying import make
-from ..front.checking import VALUES
+from ..front.checking import value_in
 from ..front.csv_files import COLUMNS, LABEL, Change, differs
-from ..front.fixtures import SLOW, Fixture, keys_of, look_at, part_of, values_of
+from ..front.fixtures import SLOW, Fixture, identifies_of, keys_of, look_at, part_of, values_of
 from ..front.guarding import ADDRESS, PERSONALITY, moved_by, patched, problems_after
 from ..front.output import BAD_ARGUMENTS, FAILED, REFUSED, Failure
 from ..front.requests import OFF, ON, identify
@@ -312,7 +312,7 @@ class Rig:
     def _set_undos(self, undos: List[Change]) -> None:
         """These changes can be taken back, the last one first."""
         self._undos = undos[-MOST_UNDOS:]
-        self._board.put("undo", {"text": undos[-1].text, "back": self._text(reverse(undos[-1])),
+        self._board.put("undo", {"text": undos[-1].text, "back": self._text(undos[-1].reversed),
                                  "count": len(self._undos), "uid": str(undos[-1].uid),
                                  "made": self._values_text(undos[-1])} if undos else None)
 
@@ -330,26 +330,8 @@ class Rig:
                 self._set_undos(self._undos[:-1])
                 raise Failure(FAILED, f"{last.uid} has {last.column} {now} by now, so it isn't taken back",
                               reason="undo")
-        plan = self.change([reverse(last)], force, is_undo=True)
+        plan = self.change([last.reversed], force, is_undo=True)
         if plan.made:
             with self.lock:
                 self._set_undos([each for each in self._undos if each is not last])
         return plan
-
-
-def reverse(change: Change) -> Change:
-    """What takes a change back."""
-    return Change(change.uid, change.column, change.after, change.before)
-
-
-def identifies_of(work: Work, uid: Uid) -> Optional[bool]:
-    """Whether a device shows itself; None if it doesn't say."""
-    values = values_of(work, Fixture(uid), "identify_device") or {}
-    found = next(iter(values.values()), None)
-    return found if isinstance(found, bool) else None
-
-
-def value_in(fixture: Fixture, column: str) -> Optional[str]:
-    """What a device has in a column; None if it isn't known."""
-    value = VALUES[column](fixture)
-    return None if value is None else str(value)

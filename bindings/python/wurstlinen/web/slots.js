@@ -6,17 +6,17 @@ import { nameOf, placedNameOf, problemOf, slotsOf } from "/fixtures.js";
 import { fixtureOf, maySend, parts, partsOf } from "/server.js";
 
 const LAST = 512, MOST_PROBLEMS = 5;
-const HELP = isTouched ? "Tap a fixture to select it, and then drag it."
+const HELP = isTouched ? "Tap a fixture to select it. Then drag it, or type its address."
     : "Drag a fixture, or select it and use the arrow keys; Enter moves it, Escape leaves it where it was.";
 const isNarrow = matchMedia("(max-width: 700px)");
-const width = () => (isNarrow.matches ? 16 : 32);
+const width = () => (isNarrow.matches ? 8 : 32);
 const rowOf = (slot) => Math.ceil(slot / width());
 const areaOf = (from, to) => `grid-area: ${rowOf(from)} / ${(from - 1) % width() + 1} / auto / span ${to - from + 1};`;
 const nameWithSlots = (found) => `${placedNameOf(found)}, ${slotsOf(found)}`;
 const mayMove = (uid) => maySend() && fixtureOf(uid) && !fixtureOf(uid).missing;
 const selected = () => document.activeElement?.dataset.uid;
-// The fixture that is being moved, and where it is now.
-let moving = null;
+// The fixture that is being moved, and where it is now; and the drag, if it is one.
+let moving = null, drag = null;
 
 // The fixtures that have slots, by address. Those that share slots are in lanes, one below another.
 function placed() {
@@ -42,7 +42,8 @@ function move(uid, to) {
 
 async function finish(isWanted) {
     const { uid, first } = moving ?? {};
-    draw(moving = null);
+    drag?.abort();
+    draw(moving = drag = null);
     if (isWanted && uid && first !== fixtureOf(uid)?.first) {
         await act("change", { uid, column: "address", value: String(first) },
             `${nameOf(fixtureOf(uid))} moved to ${first}.`);
@@ -52,10 +53,13 @@ async function finish(isWanted) {
 function hint(fixtures) {
     const before = fixtureOf(moving?.uid);
     const others = fixtures.filter((each) => before && each.root !== before.root && each.first <= moving.last
-        && each.last >= moving.first).map(placedNameOf).join(", ");
-    const help = isTouched && mayMove(selected()) ? `${nameWithSlots(fixtureOf(selected()))}: drag it.` : HELP;
-    const end = others ? `overlaps ${others}` : "free";
-    return before ? `${nameOf(before)}: ${slotsOf(before)} → ${slotsOf(moving)}, ${end}` : maySend() ? help : "";
+        && each.last >= moving.first).map(placedNameOf).map((name) => `“${name}”`).join(", ");
+    const uid = selected(), help = isTouched && mayMove(uid) ? [`${nameWithSlots(fixtureOf(uid))}: drag it, or `,
+        make("a", { href: addressOf("fixture", uid), "data-uid": uid }, "type its address"), "."] : [HELP];
+    const by = drag ? "Letting go" : "Enter", end = others ? `overlaps ${others}. ${by} asks` : `free. ${by} sends it`;
+    const leave = drag && isTouched ? "over its old place, in yellow, leaves it" : "Escape leaves it where it was";
+    return before ? [`${nameOf(before)}: ${slotsOf(before)} → ${slotsOf(moving)}, ${end}; ${leave}.`]
+        : maySend() ? help : [];
 }
 
 function keyed(event) {
@@ -80,26 +84,29 @@ function dragged(event) {
     if (!uid || !mayMove(uid) || (event.pointerType === "touch" && selected() !== uid)) {
         return;
     }
-    const within = slotAt(event) - fixtureOf(uid).first, over = new AbortController(), { signal } = over;
-    // Beside the slots it stays where it was.
-    addEventListener("pointermove", (moved) => slotAt(moved) && move(uid, slotAt(moved) - within), { signal });
-    ["pointerup", "pointercancel"].forEach((name) => addEventListener(name, () => (over.abort(),
-        finish(name === "pointerup")), { signal }));
+    drag?.abort();
+    drag = new AbortController();
+    const within = slotAt(event) - fixtureOf(uid).first, { signal } = drag;
+    // Beside the slots it stays where it was, and one that is missing by now, too.
+    addEventListener("pointermove", (moved) => slotAt(moved) && mayMove(uid) && move(uid, slotAt(moved) - within),
+        { signal });
+    ["pointerup", "pointercancel"].forEach((name) => addEventListener(name, () => finish(name === "pointerup"),
+        { signal }));
 }
 
-// The parts of a fixture in the rows of the grid. The first one is the fixture for keys and for who listens.
+// The parts of a fixture in the grid's rows. The first with room for its name, or the last, is for keys and listeners.
 function piecesOf(found, owners) {
     const { uid, first, last, lane, missing } = found, end = Math.min(last, LAST), pieces = [];
     for (let from = first; from <= end; from = rowOf(from) * width() + 1) {
-        const to = Math.min(end, rowOf(from) * width()), isFirst = from === first;
+        const to = Math.min(end, rowOf(from) * width());
+        const isMain = pieces.every(({ kind }) => kind === "div") && (to > from + 1 || to === end);
         const isCrowded = owners.slice(from - 1, to).some((count) => count > 1);
-        const attributes = { key: `${uid} ${pieces.length}`, "data-uid": uid,
-            title: nameWithSlots(found),
+        const shared = { key: isMain ? uid : `${uid} ${pieces.length}`, "data-uid": uid, title: nameWithSlots(found),
             class: classes("piece", missing && "away", isCrowded && "crowded", moving?.uid === uid && "moving"),
             style: `${areaOf(from, to)} --lane: ${lane}` };
-        pieces.push(isFirst ? make("button", { ...attributes, type: "button", onblur: redraw, onfocus: redraw,
+        pieces.push(isMain ? make("button", { ...shared, type: "button", onblur: redraw, onfocus: redraw,
             "aria-label": `${placedNameOf(found)}, slots ${first} to ${last}${isCrowded ? ", overlaps another" : ""}` },
-        placedNameOf(found)) : make("div", { ...attributes, "aria-hidden": "true" }, `… ${placedNameOf(found)}`));
+        placedNameOf(found)) : make("div", { ...shared, "aria-hidden": "true" }, `… ${placedNameOf(found)}`));
     }
     return pieces;
 }
@@ -108,6 +115,7 @@ export function view() {
     const fixtures = placed(), owners = ownersOf(fixtures);
     const crowded = owners.filter((each) => each > 1).length, free = owners.filter((each) => !each).length;
     const problems = parts.get("problems") ?? [], more = problems.length - MOST_PROBLEMS;
+    const old = fixtureOf(moving?.uid), isOld = (slot) => old && old.first <= slot && slot <= old.last;
     const opened = ({ target: { dataset: { uid } } }) => uid && (location.hash = addressOf("fixture", uid));
     return [alarm(), make("p", {}, `${free} slots are free${crowded ? `, ${crowded} shared` : ""}.`),
         make("ul", { class: "problems" }, problems.slice(0, MOST_PROBLEMS).map((each) => make("li",
@@ -116,8 +124,8 @@ export function view() {
         more > 0 && make("li", {}, `and ${more} more`)),
         make("div", { class: "universe", role: "group", "aria-label": "512 slots", style: `--columns: ${width()}`,
             onkeydown: keyed, onpointerdown: dragged, ondblclick: opened },
-        owners.map((count, at) => make("i", { class: classes(count > 1 && "crowded"), style: areaOf(at + 1, at + 1) },
-            String(at + 1))), fixtures.map((found) => piecesOf(found, owners)).flat()),
+        owners.map((count, at) => make("i", { class: classes(count > 1 && "crowded", isOld(at + 1) && "old"),
+            style: areaOf(at + 1, at + 1) }, String(at + 1))), fixtures.map((found) => piecesOf(found, owners)).flat()),
         make("p", { class: "hint", role: "status" }, hint(fixtures))];
 }
 

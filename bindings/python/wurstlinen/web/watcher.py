@@ -7,14 +7,13 @@ import itertools
 import secrets
 import threading
 import time
-from typing import Any, Callable, Dict, List, Optional, Sequence, Set, Tuple
+from typing import Any, Callable, Dict, List, Optional, Sequence, Tuple
 
 from .. import Device, Uid
-from ..front.discovery_log import explanation
 from ..front.frames import Parts, answer_text, command_of
 from ..front.output import BAD_ARGUMENTS, Failure
 from ..front.page import page_of
-from ..front.page_findings import Findings, NoFindings, findings_in
+from ..front.page_findings import Findings, findings_of
 from ..front.shared_line import SharedLine
 from ..front.watched import Watched
 from ..front.work import Work
@@ -25,7 +24,6 @@ from ..lines.uids import uid_text
 from ..parameters import STANDARD
 from ..shared.client import SharedClient
 from ..shared.words import FRAMES, Keys
-from ..tool.places import program
 from .door import Refusal
 from .hands import END_SECONDS, SILENT, Board, failure_of
 from .rig import Rig
@@ -33,9 +31,6 @@ from .rig import Rig
 KEY = "discovery"
 # More UIDs can't be named to the proved program.
 MOST_EXPECTED = 1024
-# The judgements on devices that did all as they should, on those that broke a rule, if only by silence, and on those
-# that were asked alone when bytes came that weren't their text.
-GOOD, BROKE, GARBLED = "found", "broke", "garbled"
 MOST_REQUESTS = 100
 # How often it is asked who is connected, and how long a part of that is waited for something to come.
 LOOK_SECONDS = 1.0
@@ -116,29 +111,6 @@ class Discoveries:
     def _show(self, **keys: Any) -> None:
         """Shows how it ended."""
         self._board.put(KEY, {"runs": False, "found": 0, "frames": 0, **keys})
-
-
-def findings_of(log: Sequence[str], expected: Sequence[Uid], found: Set[Uid]
-                ) -> Tuple[Optional[Findings], Dict[Uid, str], Dict[str, Any]]:
-    """What a discovery's log shows of devices that should be on the line, and what pages show of that."""
-    place = program()
-    try:
-        if place is None:
-            raise NoFindings("the proved program isn't installed")
-        said = findings_in(explanation(place, log, expected, "--json")[1])
-        if said.fault is not None:
-            raise NoFindings(said.fault)
-    except (OSError, NoFindings) as fault:
-        return None, {}, {"others": [f"why a fixture is missing can't be said: {fault}"]}
-    about = [(None if number is None else Uid.from_number(number), each)
-             for number, each in said.of_uids({uid.number for uid in expected})]
-    reasons = {uid: each.text.removeprefix(f"{uid} ") for uid, each in about if uid is not None}
-    good = {uid for uid, each in about if each.judgement == GOOD}
-    broken = {uid for uid, each in about if each.judgement == GARBLED or (each.judgement == BROKE and uid in found)}
-    bad = [{"uid": str(uid), "text": text, "is_broken": uid in broken} for uid, text in reasons.items()
-           if uid in broken or uid not in good]
-    return said, reasons, {"devices": bad, "others": [each.text for uid, each in about if uid is None],
-                           "is_broken": said.is_broken}
 
 
 class Watcher(threading.Thread):
