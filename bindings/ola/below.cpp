@@ -197,6 +197,9 @@ void Below::fail(const char *why, RDMStatusCode status) {
 
 void Below::send_down(const wurst::Frame &frame, const RDMRequest *request) {
     sent_ = read(frame);
+    if (sent_.kind == WURST_UNMUTE) {
+        last_muted_.reset();
+    }
     const bool was_sending = std::exchange(is_sending_, true);
     call(Kind::Frame, [&](Exchange *exchange) {
         if (bridge_ == Bridge::Target && sent_.kind == WURST_UNMUTE) {
@@ -261,22 +264,23 @@ void Below::mute_down(const UID &uid) {
 // A response with a wrong length is followed by label 12, which EnttecPortImpl takes for the next frame's answer. Then
 // each answer is an earlier frame's. Here the unmute ends by label 12, and the branch by the unmute's acknowledgement.
 // The branch's own reply is dropped: by the branch if the firmware ends branches by label 12, else by the mute, which
-// waits for a response. So the mute has its own answer.
+// waits for a response. So the mute has its own answer. If the device goes on sending broken ones, another one is used.
 void Below::step() {
+    const UID device = steps_ < std::size(STEPS) ? muted_ : last_muted_.value_or(muted_);
     sent_ = {};
     sent_.kind = STEPS[steps_++ % std::size(STEPS)];
     source_ = CONTROLLER;
     call(Kind::Step, [&](Exchange *exchange) {
         if (sent_.kind == WURST_BRANCH) {
-            target_->Branch(muted_, muted_, exchange);
+            target_->Branch(device, device, exchange);
         } else {
             const auto make = sent_.kind == WURST_MUTE ? &NewMuteRequest : &NewUnMuteRequest;
-            lower_->SendRDMRequest(make(CONTROLLER, muted_, 0, 1), exchange);
+            lower_->SendRDMRequest(make(CONTROLLER, device, 0, 1), exchange);
         }
     });
 }
 
-// Only the mute's own acknowledgement shows that no answer is owed any more. The device is muted then, and the core
+// Only the mute's own acknowledgement shows that no answer is owed any more. Its device is muted then, and the core
 // gets the broken reply. If there is none, or an exchange fails, the run fails.
 void Below::stepped(const Heard &heard) {
     const bool is_in_step = sent_.kind == WURST_MUTE && heard.is_matched;
@@ -367,6 +371,9 @@ void Below::replied(RDMReply *reply) {
         steps_ = 0;
         check_more();
     } else {
+        if (sent_.kind == WURST_MUTE && answer.is_matched) {
+            last_muted_ = uid_of(sent_.target);
+        }
         heard(judged(std::move(answer)), sent_.kind == WURST_REQUEST ? reply : nullptr);
     }
 }

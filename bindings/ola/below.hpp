@@ -100,10 +100,11 @@ private:
     std::optional<ola::rdm::UID> known_;
     std::vector<ola::rdm::UID> unchecked_;
     // The broken reply to a mute that waits until answers are in step again, the mute's device, and how many exchanges
-    // were made for that.
+    // were made for that. The device that has acknowledged a mute of the run last.
     std::optional<Heard> broken_;
     ola::rdm::UID muted_;
     unsigned int steps_ = 0;
+    std::optional<ola::rdm::UID> last_muted_;
     Kind kind_ = Kind::Frame;
     wurst_command sent_{};
     Clock::time_point began_{};

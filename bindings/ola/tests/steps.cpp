@@ -14,8 +14,9 @@ constexpr unsigned int UNMUTES = 3;
 enum class Firmware { EndsBranches, Newer };
 constexpr Firmware FIRMWARES[] = {Firmware::EndsBranches, Firmware::Newer};
 
-// E1.20, packet format: where the length is, and what it doesn't count.
+// E1.20, packet format: where the length and the source are, and what the length doesn't count.
 constexpr std::size_t LENGTH = 2;
+constexpr std::size_t SOURCE = 9;
 constexpr std::size_t CHECKSUM_BYTES = 2;
 
 namespace enttec {
@@ -231,6 +232,25 @@ void test_endless_damage() {
     }
 }
 
+// One fixture's acknowledgements are always broken: all others are found. Only beside the first one nothing shows that
+// answers are in step, and the discovery fails.
+void test_broken_fixture() {
+    for (const auto firmware : FIRMWARES) {
+        for (unsigned int broken = 0; broken < 5; broken++) {
+            Line line(firmware, 5);
+            UIDSet others = uids_of(line.lower.wire);
+            const UID uid = line.lower.wire.fixtures[broken].uid;
+            others.RemoveUID(uid);
+            line.lower.damage = [&](Message &bytes) { UID(&bytes[SOURCE]) == uid ? change_length(bytes) : void(); };
+            line.discover();
+            const bool is_first = broken == 0;
+            CHECK(line.client.sets.size() == 1 && line.client.sets.back() == (is_first ? UIDSet() : others));
+            CHECK(!line.lower.awaits() && line.is_quiet() == !is_first);
+            CHECK(messages_with("discovery failed: the adapter's answers may be") == (is_first ? 1U : 0U));
+        }
+    }
+}
+
 // One reply in ten is lost, at most four in a row, and one acknowledgement in ten has a wrong length: each set is exact
 // at the first try.
 void test_damage_by_chance() {
@@ -295,6 +315,7 @@ void test_steps() {
     test_one_acknowledgement();
     test_more_damage();
     test_endless_damage();
+    test_broken_fixture();
     test_damage_by_chance();
     test_interrupted_steps();
 }
