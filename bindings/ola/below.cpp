@@ -291,6 +291,7 @@ void Below::stepped(const Heard &heard) {
     }
     Heard broken = std::move(*broken_);
     broken_.reset();
+    kind_ = Kind::Frame;
     if (!is_in_step) {
         broken.failure = has_failed ? heard.failure : OUT_OF_STEP;
     }
