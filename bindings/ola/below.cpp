@@ -29,8 +29,19 @@ constexpr auto LONGEST_SILENCE = 900ms;
 constexpr auto LONG_IDLE = 2s;
 constexpr auto PROMPT = 200ms;
 
-// The command class's place in a frame (E1.20, packet format).
+// The command class's place in a frame, the length's in a response, and what the length doesn't count: the checksum
+// (E1.20, packet format).
 constexpr std::size_t COMMAND_CLASS_AT = 20;
+constexpr std::size_t LENGTH_AT = 2;
+constexpr std::size_t CHECKSUM_BYTES = 2;
+
+// The exchanges with one device that bring answers in step with their frames, and how many are made at most. If several
+// answers are owed, attempts that are all alike might go on for ever.
+constexpr wurst_command_kind STEPS[] = {
+    WURST_UNMUTE, WURST_BRANCH, WURST_MUTE,
+    WURST_UNMUTE, WURST_BRANCH, WURST_BRANCH, WURST_MUTE,
+    WURST_UNMUTE, WURST_BRANCH, WURST_BRANCH, WURST_MUTE};
+constexpr unsigned int MOST_STEPS = 4 * std::size(STEPS);
 
 // How many exchanges have to come between an answer and its repetition until that is no longer recognized.
 constexpr std::size_t REMEMBERED = 64;
@@ -48,7 +59,7 @@ public:
     }
     void Run(const std::uint8_t *data, unsigned int length) override {
         const auto size = data != nullptr ? std::min<unsigned int>(length, WURST_MOST_FRAME_BYTES) : 0;
-        below_->end(this, [=](Below &below) { below.heard(below.judged(hear_branch({data, data + size})), nullptr); });
+        below_->end(this, [=](Below &below) { below.branched(hear_branch({data, data + size})); });
     }
     void Run() override {
         below_->end(this, [](Below &below) { below.heard(below.judged(Heard()), nullptr); });
@@ -88,7 +99,7 @@ static std::string class_of(const RDMControllerInterface *lower) {
 Below::Below(RDMControllerInterface *lower)
     : lower_(lower), discoverable_(dynamic_cast<DiscoverableRDMControllerInterface *>(lower)),
       target_(dynamic_cast<Target *>(lower)), class_(class_of(lower)), bridge_(choose()), name_(class_),
-      source_(CONTROLLER), own_uid_(CONTROLLER) {}
+      source_(CONTROLLER), own_uid_(CONTROLLER), muted_(CONTROLLER) {}
 
 Below::~Below() = default;
 
@@ -177,6 +188,8 @@ void Below::fail(const char *why, RDMStatusCode status) {
         return handed_back(&reply);
     case Kind::Check:
         return checked(heard);
+    case Kind::Step:
+        return stepped(heard);
     case Kind::Devices:
         return found_none();
     }
@@ -184,6 +197,9 @@ void Below::fail(const char *why, RDMStatusCode status) {
 
 void Below::send_down(const wurst::Frame &frame, const RDMRequest *request) {
     sent_ = read(frame);
+    if (sent_.kind == WURST_UNMUTE) {
+        last_muted_.reset();
+    }
     const bool was_sending = std::exchange(is_sending_, true);
     call(Kind::Frame, [&](Exchange *exchange) {
         if (bridge_ == Bridge::Target && sent_.kind == WURST_UNMUTE) {
@@ -217,11 +233,13 @@ bool Below::check_answers(std::vector<UID> devices) {
     if (unchecked_.empty() && !was_idle_) {
         return false;
     }
-    check_next();
+    check_device();
     return true;
 }
 
-void Below::check_next() {
+void Below::check_next() { broken_ ? step() : check_device(); }
+
+void Below::check_device() {
     const UID next = unchecked_.empty() ? own_uid_ : unchecked_.back();
     if (!unchecked_.empty()) {
         unchecked_.pop_back();
@@ -241,6 +259,52 @@ void Below::mute_down(const UID &uid) {
     call(Kind::Check, [&](Exchange *exchange) {
         lower_->SendRDMRequest(NewMuteRequest(CONTROLLER, uid, 0), exchange);
     });
+}
+
+// A response with a wrong length is followed by label 12, which EnttecPortImpl takes for the next frame's answer. Then
+// each answer is an earlier frame's. Here the unmute ends by label 12, and the branch by the unmute's acknowledgement.
+// The branch's own reply is dropped: by the branch if the firmware ends branches by label 12, else by the mute, which
+// waits for a response. So the mute has its own answer. If the device goes on sending broken ones, another one is used.
+void Below::step() {
+    const UID device = steps_ < std::size(STEPS) ? muted_ : last_muted_.value_or(muted_);
+    sent_ = {};
+    sent_.kind = STEPS[steps_++ % std::size(STEPS)];
+    source_ = CONTROLLER;
+    call(Kind::Step, [&](Exchange *exchange) {
+        if (sent_.kind == WURST_BRANCH) {
+            target_->Branch(device, device, exchange);
+        } else {
+            const auto make = sent_.kind == WURST_MUTE ? &NewMuteRequest : &NewUnMuteRequest;
+            lower_->SendRDMRequest(make(CONTROLLER, device, 0, 1), exchange);
+        }
+    });
+}
+
+// Only the mute's own acknowledgement shows that no answer is owed any more. Its device is muted then, and the core
+// gets the broken reply. If there is none, or an exchange fails, the run fails.
+void Below::stepped(const Heard &heard) {
+    const bool is_in_step = sent_.kind == WURST_MUTE && heard.is_matched;
+    const bool has_failed = heard.failure != nullptr && heard.failure != OUT_OF_STEP;
+    is_in_doubt_ = !is_in_step;
+    if (!is_in_step && !has_failed && steps_ < MOST_STEPS) {
+        return check_more();
+    }
+    Heard broken = std::move(*broken_);
+    broken_.reset();
+    kind_ = Kind::Frame;
+    if (!is_in_step) {
+        broken.failure = has_failed ? heard.failure : OUT_OF_STEP;
+    }
+    this->heard(broken, nullptr);
+}
+
+// Whether a reply to the core's mute isn't as long as it says.
+bool Below::may_owe(const RDMReply &reply) const {
+    if (class_ != ANSWERS_LATER || kind_ != Kind::Frame || sent_.kind != WURST_MUTE || reply.Frames().empty()) {
+        return false;
+    }
+    const auto &raw = reply.Frames().back().data;
+    return raw.size() <= LENGTH_AT || raw.size() != raw[LENGTH_AT] + CHECKSUM_BYTES;
 }
 
 void Below::discover_below(bool is_full) {
@@ -300,8 +364,23 @@ void Below::replied(RDMReply *reply) {
         answer = judged_check(std::move(answer));
         const bool shows_nothing = answer.failure == nullptr && is_in_doubt_;
         shows_nothing && !unchecked_.empty() ? check_more() : checked(answer);
+    } else if (kind_ == Kind::Step) {
+        stepped(judged(std::move(answer)));
+    } else if (may_owe(*reply)) {
+        broken_ = judged(std::move(answer));
+        muted_ = uid_of(sent_.target);
+        steps_ = 0;
+        check_more();
     } else {
+        if (sent_.kind == WURST_MUTE && answer.is_matched) {
+            last_muted_ = uid_of(sent_.target);
+        }
         heard(judged(std::move(answer)), sent_.kind == WURST_REQUEST ? reply : nullptr);
     }
+}
+
+void Below::branched(Heard heard) {
+    heard = judged(std::move(heard));
+    kind_ == Kind::Step ? stepped(heard) : this->heard(heard, nullptr);
 }
 } // namespace stand_in

@@ -55,7 +55,7 @@ protected:
     virtual void heard(const Heard &heard, const ola::rdm::RDMReply *reply) = 0;
     virtual void handed_back(ola::rdm::RDMReply *reply) = 0;
     virtual void checked(const Heard &heard) = 0;
-    // A device's check has shown nothing, and `check_next` sends that of another one.
+    // An exchange has shown nothing, and `check_next` sends another one.
     virtual void check_more() = 0;
     virtual void found(const ola::rdm::UIDSet &devices) = 0;
     // The adapter's own discovery has no answer.
@@ -66,7 +66,7 @@ protected:
     virtual std::shared_ptr<void> kept() = 0;
 
 private:
-    enum class Kind { Frame, HandedDown, Check, Devices };
+    enum class Kind { Frame, HandedDown, Check, Step, Devices };
     using Target = ola::rdm::DiscoveryTargetInterface;
     class Exchange;
 
@@ -77,10 +77,15 @@ private:
     void remember(Exchange *exchange) noexcept;
     void fail(const char *why, ola::rdm::RDMStatusCode status);
     void mute_down(const ola::rdm::UID &uid);
+    void check_device();
+    void step();
+    void stepped(const Heard &heard);
+    bool may_owe(const ola::rdm::RDMReply &reply) const;
     Heard judged(Heard heard);
     Heard judged_check(Heard heard);
     void learn(const ola::rdm::RDMReply &reply);
     void replied(ola::rdm::RDMReply *reply);
+    void branched(Heard heard);
 
     ola::rdm::RDMControllerInterface *lower_;
     ola::rdm::DiscoverableRDMControllerInterface *discoverable_;
@@ -94,6 +99,12 @@ private:
     ola::rdm::UID own_uid_;
     std::optional<ola::rdm::UID> known_;
     std::vector<ola::rdm::UID> unchecked_;
+    // The broken reply to a mute that waits until answers are in step again, the mute's device, and how many exchanges
+    // were made for that. The device that has acknowledged a mute of the run last.
+    std::optional<Heard> broken_;
+    ola::rdm::UID muted_;
+    unsigned int steps_ = 0;
+    std::optional<ola::rdm::UID> last_muted_;
     Kind kind_ = Kind::Frame;
     wurst_command sent_{};
     Clock::time_point began_{};

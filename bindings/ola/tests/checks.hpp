@@ -120,6 +120,7 @@ void test_ends();
 void test_stops();
 void test_adapters();
 void test_lines();
+void test_steps();
 void test_settings();
 void test_threads();
 void test_wild_layers();

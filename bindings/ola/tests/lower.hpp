@@ -72,13 +72,7 @@ public:
 
     bool mute(const UID &uid) {
         mutes++;
-        for (auto &each : fixtures) {
-            if (each.uid == uid) {
-                each.is_muted = each.obeys_mutes;
-                return true;
-            }
-        }
-        return false;
+        return obey(uid, true);
     }
 
     // The reply that an adapter's class makes of what fixtures do with a request: to a GET or SET, its own data.
@@ -92,8 +86,21 @@ public:
     }
 
 private:
+    // A mute or an unmute of one fixture. False: there is none.
+    bool obey(const UID &uid, bool is_mute) {
+        for (auto &each : fixtures) {
+            if (each.uid == uid) {
+                each.is_muted = is_mute && each.obeys_mutes;
+                return true;
+            }
+        }
+        return false;
+    }
+
     std::unique_ptr<RDMReply> discovered(const RDMRequest &request) {
-        if (request.ParamId() == PID_DISC_UN_MUTE) {
+        const bool is_mute = request.ParamId() == PID_DISC_MUTE;
+        const UID target = request.DestinationUID();
+        if (request.ParamId() == PID_DISC_UN_MUTE && target.IsBroadcast()) {
             unmute();
             return std::make_unique<RDMReply>(RDM_WAS_BROADCAST);
         }
@@ -103,7 +110,7 @@ private:
             return std::unique_ptr<RDMReply>(bytes.empty() ? new RDMReply(RDM_TIMEOUT)
                 : RDMReply::DUBReply(RDMFrame(bytes.data(), static_cast<unsigned int>(bytes.size()))));
         }
-        if (!mute(request.DestinationUID())) {
+        if (!(is_mute ? mute(target) : obey(target, false))) {
             return std::make_unique<RDMReply>(RDM_TIMEOUT);
         }
         const std::uint8_t control[] = {0, 4};

@@ -63,6 +63,7 @@ int main(int, char **arguments) {
     tests::test_stops();
     tests::test_adapters();
     tests::test_lines();
+    tests::test_steps();
     tests::test_threads();
     tests::test_wild_layers();
     tests::test_moments();
