@@ -1,4 +1,5 @@
 pub mod Lines
+pub mod LineValues
 pub mod Starts
 pub mod Flaws
 pub mod Asked
