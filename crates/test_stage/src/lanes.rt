@@ -6,37 +6,39 @@ ghost use Rattle.rdm_lanes.specs.Workers.{lanes_of, book_of};
 ghost use Rattle.rdm_lanes.specs.Pairs.{client_rings, ClientsPair};
 
 use crate::failed::Failed;
+use crate::port::stop_of;
 use crate::setup::Setup;
 use left_right::Absorb;
 use rdm_agent::Kind;
-use rdm_client::{DeviceView, WorkerEnd};
+use rdm_client::{DeviceView, Tells, TellsAsk, Unfinished, Unspent};
 use rdm_lanes::views::{BlankHistory, Shown, ViewHistory};
 use rdm_lanes::{
     ClientEnd, Compared, Lanes, OpenFault, Operator, RingClient, RingFault, RingFull, ViewWorker,
     open_lanes,
 };
 use rdm_line::{Line, TapeLine};
-use rdm_log::{Log, Setup as SessionSetup};
+use rdm_log::Log;
 use std::alloc::Global;
 use std::marker::Brand;
 use std::sync::Wait;
 use test_rig::{
-    Act, AskNote, Came, Driver, Heard, Move, Mover, Note, Refusal, Said, Stage, State, Step, Stop,
-    Wrong, cancels, config, found_in, is_blank, log, log_of, moved, request, state_of, tape_of,
-    told,
+    Act, AskNote, Driver, Heard, Move, Mover, Note, Refusal, Said, Stage, State, Step, Wrong,
+    cancels, config, found_in, is_blank, log, log_of, moved, request, state_of, told,
 };
 
 type Client<J> = RingClient<J, Note, AskNote>;
 
 type Ended<J> = ClientEnd<J, Note, AskNote>;
 
-/// What is left of a client: how many calls it sent, outcomes it collected and callbacks it held, and the run of the
-/// last published view that it read.
+/// What is left of a client: how many calls it sent, outcomes it collected and callbacks it held, the tags of the first
+/// four of these, how many slots its rings have, and the run of the last published view that it read.
 #[derive(Clone, Copy, Debug, PartialEq, Eq)]
 pub struct Left {
     pub sent: u64,
     pub collected: u64,
     pub held: u64,
+    pub tags: [u64; 4],
+    pub slots: (usize, usize),
     pub run: u64,
 }
 
@@ -95,18 +97,8 @@ pub(crate) fn opened<'a, J: ViewHistory, R: Wait, X: Drop>(
     requires empty { log.entries ≡ [] }
     ensures { IfErr result (λ back. back.1.entries ≡ []) }
 {
-    let set = config(setup.greatest);
-    let ring = setup.ring.max(1);
-    let opened: Opened<J, &'a R> = match setup.search {
-        None => open_lanes(rt, alloc, history, set, log, ring, setup.places),
-        Some(search) => {
-            let set = SessionSetup {
-                config: set,
-                search,
-            };
-            open_lanes(rt, alloc, history, set, log, ring, setup.places)
-        }
-    };
+    let (set, ring) = (config(setup.greatest), setup.ring.max(1));
+    let opened: Opened<J, &'a R> = open_lanes(rt, alloc, history, set, log, ring, setup.places);
     match opened {
         Ok(
             Lanes {
@@ -191,15 +183,6 @@ fn sent(made: Result<(), RingFull>) -> Heard {
     match made {
         Ok(()) => Heard::Done,
         Err(RingFull) => Heard::Refused(Refusal::NoSlot),
-    }
-}
-
-/// Why the worker stopped.
-pub(crate) fn stop_of(end: WorkerEnd) -> Stop {
-    match end {
-        WorkerEnd::Turns => Stop::Turns,
-        WorkerEnd::AllLeft => Stop::AllLeft,
-        WorkerEnd::LogFull => Stop::LogFull,
     }
 }
 
@@ -305,11 +288,14 @@ pub(crate) fn all_left<J: ViewHistory>(
     let mut is_whole = true;
     while !ends.is_empty() {
         let end = ends.remove(0);
-        let (sent, collected, run) = (end.sent, end.collected, end.run);
+        let (sent, collected, run, slots) = (end.sent, end.collected, end.run, end.slots());
+        let (held, tags) = cancelled(alloc, end.into_unspent());
         let left = Left {
             sent,
             collected,
-            held: cancels(alloc, end.into_unspent()),
+            held,
+            tags,
+            slots,
             run,
         };
         is_whole &= all.push(left).is_ok();
@@ -320,6 +306,24 @@ pub(crate) fn all_left<J: ViewHistory>(
     } else {
         Err(Failed::Rig(Wrong::NoMemory))
     }
+}
+
+// Cancels all callbacks that are left. Returns how many there were, and the tags of the first four.
+fn cancelled(alloc: Global, mut unspent: Unspent<Note, AskNote>) -> (u64, [u64; 4]) {
+    let mut tags = [0; 4];
+    let mut count = 0usize;
+    while let Some(left) = unspent.next() {
+        let tag = match left {
+            Unfinished::Request(note) => note.cancel(alloc).tag,
+            Unfinished::Ask(note) => note.cancel().tag,
+        };
+        if let Some(place) = tags.get_mut(count) {
+            *place = tag;
+        }
+        count = count.saturating_add(1);
+    }
+    unspent.close_empty();
+    (count as u64, tags)
 }
 
 /// Opens lanes with this setup over this line, makes these moves, and ends everything.
@@ -386,21 +390,6 @@ fn driven<J: ViewHistory, X: Line + Drop, R: Wait, D: Driver>(
     let mut stage = opened::<J, R, X>(rt, alloc, history, setup, log, line)?;
     driver.drive(alloc, &mut stage);
     Ok(stage.end(alloc))
-}
-
-/// The same over a line that gives these answers and then fails. The clients have to end with these counts.
-#[inline(never)]
-pub fn play_taped<R: Wait>(
-    rt: &R,
-    alloc: Global,
-    setup: Setup,
-    came: &[Came],
-    moves: &[Move],
-    counts: &[(u64, u64, u64)],
-) -> Result<LanesOver, Failed> {
-    let over = play_lanes(rt, alloc, setup, tape_of(alloc, came)?, moves)?;
-    counts_are(&over.left, counts)?;
-    Ok(over)
 }
 
 /// The clients ended with these counts: how many calls each sent, how many outcomes it collected, and how many

@@ -15,14 +15,13 @@ mod threads;
 
 pub use failed::Failed;
 pub use lanes::{
-    LanesOver, LanesStage, Left, counts_are, drive_lanes, open_fault, play_lanes, play_taped,
-    read_alone,
+    LanesOver, LanesStage, Left, counts_are, drive_lanes, open_fault, play_lanes, read_alone,
 };
-pub use player::{MOST_NOTED, Play, Player, Points, TRIES, waits};
-pub use port::{PortOver, PortSetup, PortStage, drive_port, play_port};
+pub use player::{MOST_NOTED, Part, Play, Player, Points, TRIES, waits};
+pub use port::{Gone, PortOver, PortSetup, PortStage, drive_port, play_port};
 pub use port_job::{PortClient, PortJob, on_port, play_port_again};
 pub use port_line::{ClosingLine, PortNote};
-pub use port_threads::serve_port;
+pub use port_threads::{serve_clients, serve_port};
 pub use setup::Setup;
 pub use threads::{
     NotServed, PlayersOver, play_threads, player_heard, serve_beside, serve_bodies, serve_players,

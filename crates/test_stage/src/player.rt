@@ -86,6 +86,9 @@ pub enum Play {
     Hear,
 }
 
+/// A script, and the results of its lines except arrivals.
+pub type Part<'a> = (&'static [Play], &'a [Heard]);
+
 /// A client that follows its script.
 #[derive(Clone, Copy)]
 pub struct Player {

@@ -3,13 +3,13 @@ ghost use Rattle.std.specs.Prelude.{◌≡◌, [], IfErr};
 
 use crate::failed::Failed;
 use crate::port_line::{ClosingLine, PortNote};
-use rdm_agent::{Kind, Search};
+use rdm_agent::Kind;
 use rdm_client::WorkerEnd;
 use rdm_line::Line;
 use rdm_locked::{
     Blank, CallShare, Exchange, FinishFault, Ledger, Left, LockedClient, Port, SessionEnd,
 };
-use rdm_log::{Log, Setup as SessionSetup};
+use rdm_log::Log;
 use rdm_wire::NoMemory;
 use std::alloc::Global;
 use std::marker::Brand;
@@ -26,8 +26,6 @@ pub struct PortSetup {
     pub places: u8,
     /// How many free entries the log has.
     pub free: usize,
-    /// How discovery runs search; None: the default.
-    pub search: Option<Search>,
     /// Whether each callback pauses the port.
     pub pauses: bool,
     /// The exchange during which the port is closed, from 0.
@@ -40,7 +38,6 @@ impl PortSetup {
         PortSetup {
             places,
             free,
-            search: None,
             pauses: false,
             closes_at: None,
         }
@@ -236,12 +233,13 @@ impl<L: Ledger, R: Wait, X: Line + Drop> Stage for PortStage<'_, L, R, X> {
     }
 }
 
-/// What is left once all clients have left.
+/// What is left once all clients have left: what the worker recorded, the clients' shares, and how many callbacks they
+/// still had.
 #[derive(Drop)]
-pub(crate) struct Gone<L: Ledger> {
-    pub(crate) record: Vec<Exchange>,
-    pub(crate) shares: Vec<CallShare<L>>,
-    pub(crate) held: u64,
+pub struct Gone<L: Ledger> {
+    pub record: Vec<Exchange>,
+    pub shares: Vec<CallShare<L>>,
+    pub held: u64,
 }
 
 /// Why the worker stopped.
@@ -292,23 +290,10 @@ pub fn play_port<X: Line + Drop, R: Wait>(
     line: X,
     moves: &[Move],
 ) -> Result<PortOver, Failed> {
-    plays::<Brand, X, R>(rt, alloc, Blank::new(17), setup, line, moves)
-}
-
-fn plays<L: Ledger, X: Line + Drop, R: Wait>(
-    rt: &R,
-    alloc: Global,
-    blank: Blank,
-    setup: PortSetup,
-    line: X,
-    moves: &[Move],
-) -> Result<PortOver, Failed>
-    requires name { (blank.name ≡ L.name) × (blank.lists ≡ L.lists) }
-    requires parts { (blank.parts ≡ L.parts) × (L.parts ≡ 17) }
-{
-    let port = port_of::<L>(alloc, blank, setup)?;
-    let gone = plays_on(rt, alloc, &port, setup, line, moves)?;
-    over_of(alloc, port, gone)
+    let mut mover = Mover::new(moves);
+    let over = drive_port(rt, alloc, setup, line, &mut mover);
+    mover.made?;
+    over
 }
 
 /// The same with this driver instead of moves.
@@ -406,12 +391,7 @@ fn new_port<L: Ledger>(
     ensures blank { IfErr result (λ back. back.0 ≡ blank) }
     ensures log { IfErr result (λ back. back.1.entries ≡ []) }
 {
-    let config = config(setup.places);
-    let port = match setup.search {
-        None => Port::new(alloc, blank, config, log),
-        Some(search) => Port::new(alloc, blank, SessionSetup { config, search }, log),
-    };
-    match port {
+    match Port::new(alloc, blank, config(setup.places), log) {
         Ok(port) => Ok(port),
         Err((NoMemory, blank, log)) => Err((blank, log)),
     }

@@ -66,12 +66,12 @@ fn serves<L: Ledger + Send + Sync, X: Line + Send + Drop, R: Threads + Wait + Sy
     requires parts { (blank.parts ≡ L.parts) × (L.parts ≡ 17) }
 {
     let port = port_of::<L>(alloc, blank, setup)?;
-    let (stop, right, gone) = together(rt, alloc, &port, places, requests, turns, line);
+    let (stop, right, gone) = serve_clients(rt, alloc, &port, places, requests, turns, line);
     Ok((stop, right, over_of(alloc, port, gone)?))
 }
 
-// The clients beside the worker.
-fn together<L: Ledger + Send + Sync, X: Line + Send + Drop, R: Threads + Wait + Sync>(
+/// The same on this port, which isn't ended.
+pub fn serve_clients<L: Ledger + Send + Sync, X: Line + Send + Drop, R: Threads + Wait + Sync>(
     rt: &R,
     alloc: Global,
     port: &Port<L>,

@@ -1,5 +1,4 @@
 //! The setup of clients with ring buffers.
-use rdm_agent::Search;
 
 /// The setup of lanes.
 #[derive(Clone, Copy)]
@@ -12,8 +11,6 @@ pub struct Setup<'a> {
     pub ring: u8,
     /// The queue depth of each client.
     pub places: &'a [u8],
-    /// How discovery runs search; None: the default.
-    pub search: Option<Search>,
 }
 
 impl<'a> Setup<'a> {
@@ -25,7 +22,11 @@ impl<'a> Setup<'a> {
             greatest: 255,
             ring,
             places,
-            search: None,
         }
+    }
+
+    /// The same with this capacity for all clients.
+    pub fn of_capacity(self, greatest: u8) -> Setup<'a> {
+        Setup { greatest, ..self }
     }
 }

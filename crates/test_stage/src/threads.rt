@@ -5,16 +5,14 @@ ghost use Rattle.rdm_lanes.specs.Lanes.{SameLanes};
 ghost use Rattle.rdm_lanes.specs.Workers.{lanes_of, book_of};
 
 use crate::failed::Failed;
-use crate::lanes::{LanesOver, LanesStage, Left, all_left, not_opened, opened, stop_of};
-use crate::player::{Play, Player, Points, TRIES, waits};
+use crate::lanes::{LanesOver, LanesStage, Left, all_left, not_opened, opened};
+use crate::player::{Part, Player, Points, TRIES, waits};
+use crate::port::stop_of;
 use crate::setup::Setup;
 use rdm_lanes::views::{BlankHistory, Shown, ViewHistory};
-use rdm_lanes::{
-    Body, Gate, LanesEnd, OpenFault, Operator, RingClient, ViewWorker, run_session,
-    run_session_with,
-};
+use rdm_lanes::{Body, Gate, LanesEnd, OpenFault, Operator, RingClient, ViewWorker, run_session};
 use rdm_line::Line;
-use rdm_log::{Log, Setup as SessionSetup};
+use rdm_log::Log;
 use std::alloc::Global;
 use std::marker::Brand;
 use std::sync::Wait;
@@ -76,17 +74,17 @@ type Back<X> = (OpenFault, Log, Vec<Player>, X, BlankHistory);
 // How a session ends, or why it wasn't held.
 type Ended<J, X> = Result<LanesEnd<J, Player, X, Note, AskNote>, Back<X>>;
 
-/// Holds a session in threads with this setup over this line. For each script, a player runs in a thread of its own,
-/// beside the worker.
+/// Holds a session in threads with this setup over this line. For each part, a player runs its script in a thread of
+/// its own, beside the worker. What it hears isn't compared.
 #[inline(never)]
 pub fn serve_players<X: Line + Send + Drop, R: Threads + Wait + Sync>(
     rt: &R,
     alloc: Global,
     setup: Setup,
-    scripts: &[&'static [Play]],
+    parts: &[Part<'_>],
     line: X,
 ) -> Result<PlayersOver, NotServed> {
-    match players_of(alloc, scripts) {
+    match players_of(alloc, parts) {
         Ok(players) => serve_bodies(rt, alloc, setup, players, TURNS, line),
         Err(wrong) => Err(NotServed::Failed(wrong)),
     }
@@ -128,9 +126,9 @@ fn serves_twice<J: ViewHistory + Send + Sync, X: Line + Send + Drop, R: Threads 
     requires empty { log.entries ≡ [] }
     requires one_each { length players.items ≡ length setup.now.places.now }
 {
-    let first = serves::<J, X, R>(rt, alloc, history, setup, log, players, turns, line);
+    let first = served::<J, X, R>(rt, alloc, history, setup, log, players, turns, line);
     let (fault, log, players, line, history) = match first {
-        Ok(over) => return over,
+        Ok(end) => return over_of(alloc, end),
         Err(back) => back,
     };
     if !is_blank(&log) {
@@ -139,36 +137,35 @@ fn serves_twice<J: ViewHistory + Send + Sync, X: Line + Send + Drop, R: Threads 
     if fault != OpenFault::NoMemory {
         return Err(NotServed::Refused(fault, players));
     }
-    match serves::<J, X, R>(rt, alloc, history, setup, log, players, turns, line) {
-        Ok(over) => over,
+    match served::<J, X, R>(rt, alloc, history, setup, log, players, turns, line) {
+        Ok(end) => over_of(alloc, end),
         Err(_) => Err(NotServed::Failed(Failed::Rig(Wrong::NotAgain))),
     }
 }
 
-/// The same, and checks that all clients left and each player got these results. Err: what differs.
+/// The same, and checks that all clients left and each player got its part's results. Err: what differs.
 pub fn play_threads<X: Line + Send + Drop, R: Threads + Wait + Sync>(
     rt: &R,
     alloc: Global,
     setup: Setup,
-    scripts: &[&'static [Play]],
+    parts: &[Part<'_>],
     line: X,
-    heard: &[&[Heard]],
 ) -> Result<PlayersOver, Failed> {
-    let over = serve_players(rt, alloc, setup, scripts, line)?;
+    let over = serve_players(rt, alloc, setup, parts, line)?;
     if over.stop != Stop::AllLeft {
         return Err(Failed::Stop(over.stop));
     }
-    players_heard(&over.players, heard)?;
+    players_heard(&over.players, parts)?;
     Ok(over)
 }
 
-// Each player ran once, and got these results.
-fn players_heard(players: &[Player], heard: &[&[Heard]]) -> Result<(), Failed> {
-    if players.len() != heard.len() {
+// Each player ran once, and got its part's results.
+fn players_heard(players: &[Player], parts: &[Part<'_>]) -> Result<(), Failed> {
+    if players.len() != parts.len() {
         return Err(Failed::Players);
     }
-    for (number, (player, heard)) in players.iter().zip(heard).enumerate() {
-        player_heard(player, number, heard)?;
+    for (number, (player, part)) in players.iter().zip(parts).enumerate() {
+        player_heard(player, number, part.1)?;
     }
     Ok(())
 }
@@ -187,36 +184,15 @@ pub fn player_heard(player: &Player, number: usize, heard: &[Heard]) -> Result<(
     Ok(())
 }
 
-// A player for each script.
-fn players_of(alloc: Global, scripts: &[&'static [Play]]) -> Result<Vec<Player>, Failed> {
+// A player for each part.
+fn players_of(alloc: Global, parts: &[Part<'_>]) -> Result<Vec<Player>, Failed> {
     let mut players = Vec::new(alloc);
-    for script in scripts {
-        if players.push(Player::new(script)).is_err() {
+    for part in parts {
+        if players.push(Player::new(part.0)).is_err() {
             return Err(Failed::Rig(Wrong::NoMemory));
         }
     }
     Ok(players)
-}
-
-fn serves<J: ViewHistory + Send + Sync, X: Line + Send + Drop, R: Threads + Wait + Sync>(
-    rt: &R,
-    alloc: Global,
-    history: BlankHistory,
-    setup: &Setup,
-    log: Log,
-    players: Vec<Player>,
-    turns: u64,
-    line: X,
-) -> Result<Result<PlayersOver, NotServed>, Back<X>>
-    requires name { book_of history ≡ J.book }
-    requires empty { log.entries ≡ [] }
-    requires one_each { length players.items ≡ length setup.now.places.now }
-    ensures empty { IfErr result (λ back. back.1.entries ≡ []) }
-    ensures one_each { IfErr result (λ back. length back.2.items ≡ length setup.now.places.now) }
-    ensures same_name { IfErr result (λ back. book_of back.4 ≡ J.book) }
-{
-    let end = served::<J, X, R>(rt, alloc, history, setup, log, players, turns, line)?;
-    Ok(over_of(alloc, end))
 }
 
 #[inline(never)]
@@ -238,23 +214,11 @@ fn served<J: ViewHistory + Send + Sync, X: Line + Send, R: Threads + Wait + Sync
     ensures same_name { IfErr result (λ back. book_of back.4 ≡ J.book) }
 {
     let gate = Points::new();
+    let (set, ring) = (config(setup.greatest), setup.ring.max(1));
     let places = setup.places;
-    let set = config(setup.greatest);
-    let ring = setup.ring.max(1);
-    match setup.search {
-        None => run_session(
-            rt, alloc, history, set, log, ring, places, players, &gate, line, turns,
-        ),
-        Some(search) => {
-            let set = SessionSetup {
-                config: set,
-                search,
-            };
-            run_session_with(
-                rt, alloc, history, set, log, ring, places, players, &gate, line, turns,
-            )
-        }
-    }
+    run_session(
+        rt, alloc, history, set, log, ring, places, players, &gate, line, turns,
+    )
 }
 
 // What is left of a session.

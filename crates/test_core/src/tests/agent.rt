@@ -1,8 +1,7 @@
 //! Which replies fit an operation, and how many ranges are open.
-use super::checks::check;
-use rdm_agent::{Agent, DEFAULT_BUDGET, Kind, Op, OpReply};
-use rdm_wire::{BranchReply, Uid, UidRange, UidSet};
-use std::process::Abort;
+use crate::tests::*;
+use rdm_agent::{Agent, Op, OpReply};
+use rdm_wire::BranchReply;
 
 // Whether the reply fits an unmute, a mute, a branch, and the end of a run.
 fn fits_each(rt: &impl Abort, reply: OpReply, fits: [bool; 4]) {

@@ -1,10 +1,8 @@
 //! Checks of values. A call of these is proved in less time than an assertion, which is proved anew at each place.
 ghost use Rattle.std.specs.Prelude.{IsTrue};
 
-use rdm_wire::Frame;
-use std::alloc::Global;
+use crate::tests::*;
 use std::fmt::{Debug, Display};
-use std::process::Abort;
 
 /// Ends the test if the fact doesn't hold.
 pub fn check(rt: &impl Abort, fact: bool)

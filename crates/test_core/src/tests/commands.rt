@@ -1,9 +1,6 @@
 //! Bytes that aren't a command, and a response with a message count.
-use super::checks::{bytes_of, check};
-use arrayvec::ArrayVec;
-use rdm_wire::{AckType, RespClass, Response, Uid, encode_response, read_command};
-use std::alloc::Global;
-use std::process::Abort;
+use crate::tests::*;
+use rdm_wire::{AckType, RespClass, Response, encode_response, read_command};
 
 // No bytes; a branch whose bounds are swapped; a mute of all devices; a wrong checksum; port id 2; a message count; a
 // byte too many; one too few; a response.

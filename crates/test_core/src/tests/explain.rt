@@ -1,10 +1,8 @@
 //! A set of devices is compared with the acknowledgements of a run. The program takes its set from these, so no case
 //! can show this.
-use super::checks::check;
+use crate::tests::*;
 use rdm_explain::{Asked, Exchange, Heard, RunFinding, explain_run};
-use rdm_wire::{Device, DeviceSet, MuteAck, Uid};
-use std::alloc::Global;
-use std::process::Abort;
+use rdm_wire::MuteAck;
 
 // Two devices that acknowledge, and one that isn't there.
 fn known() -> Uid {

@@ -2,9 +2,7 @@
 ghost use Rattle.std.specs.Prelude.{◌≡◌, false};
 ghost use Rattle.rdm_wire.specs.Uid.{is_broadcast};
 
-use super::checks::check;
-use rdm_wire::{Device, DeviceSet, SetFull, Uid, UidRange, UidSet};
-use std::process::Abort;
+use crate::tests::*;
 
 // A device's UID.
 fn uid(rt: &impl Abort, number: u32) -> Uid

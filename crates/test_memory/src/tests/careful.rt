@@ -1,10 +1,5 @@
 //! Moves of which one may run out of memory.
-use super::checks::check;
-use rdm_join::Status;
-use rdm_log::JoinFault;
-use std::alloc::Global;
-use std::process::Abort;
-use test_rig::{Act, Driver, Heard, Move, Refusal, Said, Stage, Step};
+use crate::tests::*;
 
 /// Makes moves. If one of them runs out of memory, it is made again.
 #[derive(Drop)]
@@ -37,11 +32,10 @@ impl<'a> Careful<'a> {
         }
         self.was_refused = true;
         match (act, came) {
-            (Act::Join(_), Heard::Nothing | Heard::Refused(Refusal::Join(JoinFault::NoMemory))) =>
-                {}
+            (Act::Join(_), Nothing | Refused(Refusal::Join(JoinFault::NoMemory))) => {}
             // The last turn made no exchange, published no view, or moved no outcome: the next turn does.
-            (Act::Client(_, Step::Collect), Heard::Nothing) => works(alloc, stage, 1),
-            (Act::Client(client, Step::Collect), Heard::Request(tag, Status::NoMemory)) => {
+            (Act::Client(_, Step::Collect), Nothing) => works(alloc, stage, 1),
+            (Act::Client(client, Step::Collect), Request(tag, Status::NoMemory)) => {
                 let _ = stage.act(alloc, Act::Client(client, Step::Submit(tag)));
                 works(alloc, stage, 3);
             }

@@ -1,14 +1,7 @@
 //! Controllers: their creation, joins, and replies that are delivered.
-use super::checks::check;
-use super::lines::first_device;
-use rdm_join::{LineEvent, Status};
-use rdm_line::{Line, SimLine};
-use rdm_log::{ClientId, JoinFault, NotAsked, SubmitFault};
+use crate::tests::*;
+use rdm_join::LineEvent;
 use rdm_queue::Controller;
-use rdm_wire::NoMemory;
-use std::alloc::Global;
-use std::process::Abort;
-use test_rig::{Heard, completion_told, config, request};
 
 const CLIENT: ClientId = ClientId(0);
 
@@ -90,11 +83,11 @@ fn deliver_to_a_controller(rt: HostRuntime) {
     let mut controller = controller(&rt, rt.alloc(), 1);
     joins(&rt, rt.alloc(), &mut controller, 1);
     let mut heard = asks(&rt, rt.alloc(), &mut controller, &mut line, 0);
-    if heard == Heard::Request(0, Status::NoMemory) {
+    if heard == Request(0, Status::NoMemory) {
         heard = asks(&rt, rt.alloc(), &mut controller, &mut line, 1);
     }
     check(
         &rt,
-        heard == Heard::Answered(0, 1, 2) || heard == Heard::Answered(1, 1, 2),
+        heard == Answered(0, 1, 2) || heard == Answered(1, 1, 2),
     );
 }

@@ -1,12 +1,7 @@
 //! Desks.
-use super::checks::check;
+use crate::tests::*;
 use rdm_client::{Collected, Desk, Full, Misdelivered};
-use rdm_join::Status;
 use rdm_log::{BoxedOutcome, Completion};
-use rdm_wire::NoMemory;
-use std::alloc::Global;
-use std::process::Abort;
-use test_rig::{AskNote, Note, cancels};
 
 // A desk for this queue depth, made again if an allocation fails.
 fn desk(rt: &impl Abort, alloc: Global, places: u8) -> Desk<Note, AskNote> {
@@ -24,7 +19,7 @@ fn outcome(alloc: Global, number: u64) -> BoxedOutcome {
     BoxedOutcome::Request {
         number,
         done: Completion {
-            status: Status::Timeout,
+            status: Timeout,
             reply: None,
             bytes: Vec::new(alloc),
         },
@@ -37,7 +32,7 @@ type Settled = Result<Collected, (Misdelivered, BoxedOutcome)>;
 // Whether the callback with this tag was called with such an outcome.
 fn is_told(settled: &Settled, tag: u64) -> bool {
     match settled {
-        Ok(Collected::Request(told)) => told.tag == tag && told.done.status == Status::Timeout,
+        Ok(Collected::Request(told)) => told.tag == tag && told.done.status == Timeout,
         _ => false,
     }
 }

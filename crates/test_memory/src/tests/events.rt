@@ -1,15 +1,8 @@
 //! Lists of events that a session runs.
-use super::checks::check;
-use super::lines::first_device;
-use rdm_agent::{DEFAULT_BUDGET, Kind};
-use rdm_join::{LineEvent, LineReply, Status};
-use rdm_line::{Line, SimLine};
-use rdm_log::{Answer, BoxedOutcome, ClientId, DiscoveryEnd, Event, JoinFault};
+use crate::tests::*;
+use rdm_join::{LineEvent, LineReply};
+use rdm_log::{Answer, BoxedOutcome, DiscoveryEnd, Event};
 use rdm_queue::{Oldest, Session};
-use rdm_wire::NoMemory;
-use std::alloc::Global;
-use std::process::Abort;
-use test_rig::{Found, Heard, completion_told, found_in, request, session_of};
 
 const CLIENT: ClientId = ClientId(0);
 
@@ -66,9 +59,7 @@ fn runs(rt: &impl Abort, alloc: Global, session: &mut Session, events: &[Event])
 fn is_served(answer: &Answer) -> bool {
     match answer {
         Answer::Take(Ok(Some(_))) => true,
-        Answer::Collect(Ok(Some(BoxedOutcome::Request { done, .. }))) => {
-            done.status == Status::Timeout
-        }
+        Answer::Collect(Ok(Some(BoxedOutcome::Request { done, .. }))) => { done.status == Timeout }
         _ => false,
     }
 }
@@ -174,12 +165,12 @@ fn answer_of_a_join_and_of_a_reply(rt: HostRuntime) {
     let mut session = session(&rt, rt.alloc());
     joins(&rt, rt.alloc(), &mut session);
     let mut heard = asks(&rt, rt.alloc(), &mut session, &mut line, 0);
-    if heard == Heard::Request(0, Status::NoMemory) {
+    if heard == Request(0, Status::NoMemory) {
         heard = asks(&rt, rt.alloc(), &mut session, &mut line, 1);
     }
     check(
         &rt,
-        heard == Heard::Answered(0, 1, 2) || heard == Heard::Answered(1, 1, 2),
+        heard == Answered(0, 1, 2) || heard == Answered(1, 1, 2),
     );
 }
 
@@ -226,7 +217,7 @@ fn is_found(answer: &Answer) -> bool {
                 run: 1,
                 fault: None,
             };
-            *end == wanted && found_in(set) == Found::First
+            *end == wanted && found_in(set) == First
         }
         _ => false,
     }

@@ -2,17 +2,10 @@
 ghost use Rattle.std.specs.Prelude.{◌≡◌};
 ghost use Rattle.rdm_locked.specs.Clients.{client_of};
 
-use super::checks::check;
-use super::lines::first_device;
-use rdm_join::{LineEvent, Status};
-use rdm_line::{Line, SimLine};
+use crate::tests::*;
+use rdm_join::LineEvent;
 use rdm_locked::{Blank, CallShare, Inside, Ledger, Turn};
-use rdm_log::{ClientId, JoinFault, NotAsked};
-use rdm_wire::NoMemory;
-use std::alloc::Global;
 use std::marker::Brand;
-use std::process::Abort;
-use test_rig::{Heard, completion_told, config, is_blank, log, request};
 
 const CLIENT: ClientId = ClientId(0);
 
@@ -88,13 +81,10 @@ fn delivers<L: Ledger>(rt: &impl Abort, alloc: Global, blank: Blank)
     let mut inside = inside::<L>(rt, alloc, blank);
     let (client, mut share) = joined(rt, alloc, &mut inside);
     let mut heard = asks(rt, alloc, &mut inside, client, &mut share, &mut line, 0);
-    if heard == Heard::Request(0, Status::NoMemory) {
+    if heard == Request(0, Status::NoMemory) {
         heard = asks(rt, alloc, &mut inside, client, &mut share, &mut line, 1);
     }
-    check(
-        rt,
-        heard == Heard::Answered(0, 1, 2) || heard == Heard::Answered(1, 1, 2),
-    );
+    check(rt, heard == Answered(0, 1, 2) || heard == Answered(1, 1, 2));
 }
 
 #[test]

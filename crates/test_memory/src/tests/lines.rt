@@ -1,9 +1,5 @@
 //! Lines that are made again if the allocation of their scene fails.
-use super::checks::check;
-use rdm_line::SimLine;
-use std::alloc::Global;
-use std::process::Abort;
-use test_rig::{LineOf, Meeting, TimedDevice, Who, Wrong, line_of};
+use crate::tests::*;
 
 /// A line of this scene. If `SimLine::new` fails, the rig calls it again with the scene that was returned.
 pub fn line(rt: &impl Abort, alloc: Global, of: LineOf) -> SimLine {

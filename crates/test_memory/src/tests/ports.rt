@@ -1,58 +1,29 @@
 //! A session with a mutex, with its client and its worker, in one thread.
 use super::careful::{Careful, is_again};
-use super::checks::check;
-use super::lines::first_device;
-use rdm_agent::Kind;
+use crate::tests::*;
 use rdm_log::AskFault;
-use std::alloc::Global;
-use std::process::Abort;
-use std::sync::Wait;
-use test_rig::{Act, Ending, Found, Heard, LONG, Move, Refusal, Step, Stop, Wrong};
-use test_stage::{Failed, PortOver, PortSetup, drive_port};
 
 // A client submits a request, which is answered by two bytes, and collects.
-static SHORT: [Move; 4] = [
-    (Act::Join(2), Heard::Number(0)),
-    (Act::Client(0, Step::Submit(1)), Heard::Number(0)),
-    (Act::Work(1), Heard::Worked(Stop::Turns)),
-    (Act::Client(0, Step::Collect), Heard::Answered(1, 1, 2)),
-];
+static SHORT: &[Move] = moves! {
+    Join(2) => Number(0), 0 Submit(1) => Number(0), Work(1) => Worked(Turns), 0 Collect => Answered(1, 1, 2),
+};
 
 // The same, but it is answered in three parts of 231 bytes.
-static IN_PARTS: [Move; 4] = [
-    (Act::Join(2), Heard::Number(0)),
-    (Act::Client(0, Step::Submit(LONG)), Heard::Number(0)),
-    (Act::Work(3), Heard::Worked(Stop::Turns)),
-    (Act::Client(0, Step::Collect), Heard::Data(LONG, 693)),
-];
+static IN_PARTS: &[Move] = moves! {
+    Join(2) => Number(0), 0 Submit(LONG) => Number(0), Work(3) => Worked(Turns), 0 Collect => Data(LONG, 693),
+};
 
 // A client asks for a discovery, which finds the device in ten exchanges, and collects.
-static DISCOVERY: [Move; 4] = [
-    (Act::Join(2), Heard::Number(0)),
-    (
-        Act::Client(0, Step::Discover(Kind::Full, 1)),
-        Heard::Number(0),
-    ),
-    (Act::Work(10), Heard::Worked(Stop::Turns)),
-    (
-        Act::Client(0, Step::Collect),
-        Heard::Discovery(1, 1, Ending::Faultless, Found::First),
-    ),
-];
+static DISCOVERY: &[Move] = moves! {
+    Join(2) => Number(0), 0 Full(1) => Number(0), Work(10) => Worked(Turns),
+    0 Collect => Discovery(1, 1, Faultless, First),
+};
 
 // After a close discoveries are refused.
-static CLOSED: [Move; 4] = [
-    (Act::Join(2), Heard::Number(0)),
-    (Act::Close, Heard::Done),
-    (
-        Act::Client(0, Step::Discover(Kind::Full, 1)),
-        Heard::Refused(Refusal::Ask(AskFault::Closed, 1)),
-    ),
-    (
-        Act::Client(0, Step::Discover(Kind::Full, 2)),
-        Heard::Refused(Refusal::Ask(AskFault::Closed, 2)),
-    ),
-];
+static CLOSED: &[Move] = moves! {
+    Join(2) => Number(0), Close => Done, 0 Full(1) => Refused(Refusal::Ask(AskFault::Closed, 1)),
+    0 Full(2) => Refused(Refusal::Ask(AskFault::Closed, 2)),
+};
 
 // Makes these moves. None: the rig itself ran out of memory.
 fn plays<R: Wait + Abort>(rt: &R, alloc: Global, moves: &[Move]) -> Option<PortOver> {
@@ -96,17 +67,17 @@ fn answers<R: Wait + Abort>(rt: &R, alloc: Global, moves: &[Move], parts: usize)
 
 #[test]
 fn port_new_and_client_and_work(rt: HostRuntime) {
-    answers(&rt, rt.alloc(), &SHORT, 1);
+    answers(&rt, rt.alloc(), SHORT, 1);
 }
 
 #[test]
 fn port_work_of_parts(rt: HostRuntime) {
-    answers(&rt, rt.alloc(), &IN_PARTS, 3);
+    answers(&rt, rt.alloc(), IN_PARTS, 3);
 }
 
 #[test]
 fn port_client_discover_and_collect(rt: HostRuntime) {
-    let over = plays_again(&rt, rt.alloc(), &DISCOVERY);
+    let over = plays_again(&rt, rt.alloc(), DISCOVERY);
     check(&rt, over.calls == 2 && over.recorded == 10);
     check(&rt, over.held == 0 && over.state.is_idle);
 }
@@ -114,7 +85,7 @@ fn port_client_discover_and_collect(rt: HostRuntime) {
 // The count of allocations shows that no discovery allocates, whether it is refused or not.
 #[test]
 fn port_client_discover_after_a_close(rt: HostRuntime) {
-    let over = plays_again(&rt, rt.alloc(), &CLOSED);
+    let over = plays_again(&rt, rt.alloc(), CLOSED);
     check(&rt, over.calls == 2 && over.recorded == 0);
     check(&rt, over.held == 0 && over.state.is_closed);
 }

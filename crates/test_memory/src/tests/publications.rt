@@ -1,15 +1,10 @@
 //! A view whose publication fails in two turns in a row. In a test whose name ends with `twice`, `checks/memory` lets
 //! an allocation and the next one fail.
-use super::checks::check;
-use rdm_agent::Kind;
-use rdm_join::{LineReply, Status};
-use rdm_line::{Asks, Counted, Line};
+use crate::tests::*;
+use rdm_join::LineReply;
+use rdm_line::{Asks, Counted};
 use rdm_wire::Frame;
-use std::alloc::Global;
-use std::sync::Wait;
 use std::sync::atomic::{AtomicU64, Ordering};
-use test_rig::{Act, Driver, Ending, Found, Heard, Stage, Step, silent};
-use test_stage::{Failed, LanesOver, Setup, drive_lanes};
 
 // How many allocations fail.
 const FAILURES: usize = 2;
@@ -47,8 +42,8 @@ impl Driver for Patient<'_> {
         let _ = stage.act(alloc, Act::Client(0, Step::Submit(2)));
         let _ = stage.act(alloc, Act::Work(7));
         let waits = waits_for_view(alloc, stage, self.made);
-        let discovery = Heard::Discovery(1, 1, Ending::Faultless, Found::Nobody);
-        let request = Heard::Request(2, Status::FailedToSend);
+        let discovery = Discovery(1, 1, Faultless, Nobody);
+        let request = Request(2, FailedToSend);
         self.is_right = waits
             && collects(alloc, stage) == discovery
             && collects(alloc, stage) == request;
@@ -59,27 +54,27 @@ impl Driver for Patient<'_> {
 // line makes no exchange.
 fn waits_for_view<S: Stage>(alloc: Global, stage: &mut S, made: &AtomicU64) -> bool {
     for _turn in 0..FAILURES {
-        if stage.act(alloc, LOOK) != Heard::Sees(0, Found::Nobody) {
+        if stage.act(alloc, LOOK) != Sees(0, Nobody) {
             break;
         }
-        if stage.act(alloc, COLLECT) != Heard::Nothing || made.load(Ordering::SeqCst) != 8 {
+        if stage.act(alloc, COLLECT) != Nothing || made.load(Ordering::SeqCst) != 8 {
             return false;
         }
         let _ = stage.act(alloc, Act::Work(1));
     }
-    stage.act(alloc, LOOK) == Heard::Sees(1, Found::Nobody)
+    stage.act(alloc, LOOK) == Sees(1, Nobody)
 }
 
 // Collects, with further turns if an outcome waits for memory.
 fn collects<S: Stage>(alloc: Global, stage: &mut S) -> Heard {
     for _turn in 0..=FAILURES {
         let heard = stage.act(alloc, COLLECT);
-        if heard != Heard::Nothing {
+        if heard != Nothing {
             return heard;
         }
         let _ = stage.act(alloc, Act::Work(1));
     }
-    Heard::Nothing
+    Nothing
 }
 
 // Drives lanes over that line. Returns whether all was right, and what is left.

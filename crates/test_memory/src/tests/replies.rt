@@ -1,13 +1,10 @@
 //! The data of joined replies.
 ghost use Rattle.rdm_join.specs.JoinerStanding.{IsOpen};
 
-use super::checks::check;
+use crate::tests::*;
 use arrayvec::ArrayVec;
-use rdm_join::{Joiner, Judged, Status, Step};
+use rdm_join::{Joiner, Judged, Step};
 use rdm_wire::{AckType, RespClass, Response};
-use std::alloc::Global;
-use std::process::Abort;
-use test_rig::{controller, get};
 
 // A response to a GET of the parameter `0060`, with this many bytes `5a` of data.
 fn response(rt: &impl Abort, ack: AckType, length: usize) -> Response {

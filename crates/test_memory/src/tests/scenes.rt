@@ -1,11 +1,7 @@
 //! Scenes, and the lines that are made of them.
-use super::checks::check;
-use super::lines::first_device;
-use rdm_line::{AddFault, Line, Parameters, SceneDevice, SceneDevices, SimLine};
+use crate::tests::*;
+use rdm_line::{AddFault, Parameters, SceneDevice, SceneDevices};
 use rdm_wire::{Device, Frame, Uid, encode_mute};
-use std::alloc::Global;
-use std::process::Abort;
-use test_rig::{Who, controller, device_of};
 
 // Adds the device with this number. It has no parameters, and is on the line from the start.
 fn puts(

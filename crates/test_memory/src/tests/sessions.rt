@@ -1,17 +1,7 @@
 //! Sessions and their logs: their creation, joins, and replies that are delivered.
 use super::careful::Careful;
-use super::checks::check;
-use super::lines::{first_device, line};
-use rdm_agent::{DEFAULT_BUDGET, Kind};
-use rdm_join::Status;
-use rdm_line::SimLine;
-use rdm_log::{JoinFault, SubmitFault};
-use std::alloc::Global;
-use std::process::Abort;
-use test_rig::{
-    Act, Driver, Ending, Found, Heard, LineOf, Meeting, Move, Refusal, SessionStage, Stage, Step,
-    Stop, open_session,
-};
+use super::lines::line;
+use crate::tests::*;
 
 // A session with this capacity, a line with the first device, and a log with this many free entries.
 fn session(rt: &impl Abort, alloc: Global, places: u8, free: usize) -> SessionStage<SimLine> {
@@ -26,31 +16,23 @@ fn moves(rt: &impl Abort, alloc: Global, stage: &mut SessionStage<SimLine>, move
     careful.is_right(rt);
 }
 
-const FULL: Heard = Heard::Refused(Refusal::Submit(SubmitFault::Full, 0));
+const FULL: Heard = Refused(Refusal::Submit(SubmitFault::Full, 0));
 
 #[test]
 fn join_client_of_one_place(rt: HostRuntime) {
     let mut stage = session(&rt, rt.alloc(), 2, 100);
-    let all = [
-        (Act::Join(1), Heard::Number(0)),
-        (
-            Act::Join(2),
-            Heard::Refused(Refusal::Join(JoinFault::NoPlaces)),
-        ),
-        (Act::Join(1), Heard::Number(1)),
-        (Act::Client(0, Step::Submit(0)), Heard::Number(0)),
-        (Act::Client(1, Step::Submit(0)), Heard::Number(1)),
-        (Act::Client(0, Step::Submit(0)), FULL),
-    ];
-    moves(&rt, rt.alloc(), &mut stage, &all);
+    let all = moves! {
+        Join(1) => Number(0), Join(2) => Refused(Refusal::Join(JoinFault::NoPlaces)), Join(1) => Number(1),
+        0 Submit(0) => Number(0), 1 Submit(0) => Number(1), 0 Submit(0) => FULL,
+    };
+    moves(&rt, rt.alloc(), &mut stage, all);
 }
 
 // A client with this queue depth, which it uses up with requests. A join that runs out of memory may only change the
 // log.
 fn fills_queue(rt: &impl Abort, alloc: Global, places: u8) {
     let mut stage = session(rt, alloc, places, 2000);
-    let join = [(Act::Join(places), Heard::Number(0))];
-    moves(rt, alloc, &mut stage, &join);
+    moves(rt, alloc, &mut stage, moves! { Join(places) => Number(0) });
     let state = stage.state();
     check(rt, state.is_idle && !state.is_closed && !state.is_paused);
     check(
@@ -59,7 +41,7 @@ fn fills_queue(rt: &impl Abort, alloc: Global, places: u8) {
     );
     for number in 0..u64::from(places) {
         let submitted = stage.act(alloc, Act::Client(0, Step::Submit(0)));
-        check(rt, submitted == Heard::Number(number));
+        check(rt, submitted == Number(number));
     }
     check(
         rt,
@@ -88,18 +70,18 @@ fn fills_the_log(rt: &impl Abort, alloc: Global) -> bool {
     let mut stage = session(rt, alloc, 2, 3);
     check(rt, stage.state().free == 3);
     let joined = stage.act(alloc, Act::Join(1));
-    if joined == Heard::Refused(Refusal::Join(JoinFault::NoMemory)) {
+    if joined == Refused(Refusal::Join(JoinFault::NoMemory)) {
         return false;
     }
     let submitted = stage.act(alloc, Act::Client(0, Step::Submit(1)));
-    let full = Heard::Refused(Refusal::Submit(SubmitFault::LogFull, 1));
-    check(rt, joined == Heard::Number(0) && submitted == full);
+    let full = Refused(Refusal::Submit(SubmitFault::LogFull, 1));
+    check(rt, joined == Number(0) && submitted == full);
     check(rt, stage.state().free == 2);
     let closed = stage.act(alloc, Act::Close);
     let state = stage.state();
     check(
         rt,
-        closed == Heard::Done && state.is_closed && state.counts.entries == 2,
+        closed == Done && state.is_closed && state.counts.entries == 2,
     );
     true
 }
@@ -131,28 +113,22 @@ fn is_answered(
     number: u64,
 ) -> bool {
     let submitted = stage.act(alloc, Act::Client(0, Step::Submit(number)));
-    check(rt, submitted == Heard::Number(number));
+    check(rt, submitted == Number(number));
     let worked = stage.act(alloc, Act::Work(2));
-    check(rt, worked == Heard::Worked(Stop::AllLeft));
-    check(rt, stage.act(alloc, Act::Deliver) == Heard::Nothing);
+    check(rt, worked == Worked(AllLeft));
+    check(rt, stage.act(alloc, Act::Deliver) == Nothing);
     let collected = stage.act(alloc, Act::Client(0, Step::Collect));
     check(
         rt,
-        collected == Heard::Answered(number, 1, 2)
-            || collected == Heard::Request(number, Status::NoMemory),
+        collected == Answered(number, 1, 2) || collected == Request(number, Status::NoMemory),
     );
-    collected == Heard::Answered(number, 1, 2)
+    collected == Answered(number, 1, 2)
 }
 
 #[test]
 fn deliver(rt: HostRuntime) {
     let mut stage = session(&rt, rt.alloc(), 1, 100);
-    moves(
-        &rt,
-        rt.alloc(),
-        &mut stage,
-        &[(Act::Join(1), Heard::Number(0))],
-    );
+    moves(&rt, rt.alloc(), &mut stage, moves! { Join(1) => Number(0) });
     let is_first = is_answered(&rt, rt.alloc(), &mut stage, 0);
     check(&rt, is_first || is_answered(&rt, rt.alloc(), &mut stage, 1));
 }
@@ -170,18 +146,10 @@ fn sim_line_new_without_devices(rt: HostRuntime) {
     let line = line(&rt, alloc, of);
     let opened = open_session(alloc, 1, DEFAULT_BUDGET, 100, line);
     let mut stage = opened.expect(&rt, "memory for a session");
-    let all = [
-        (Act::Join(1), Heard::Number(0)),
-        (
-            Act::Client(0, Step::Discover(Kind::Full, 0)),
-            Heard::Number(0),
-        ),
-        (Act::Work(9), Heard::Worked(Stop::AllLeft)),
-        (
-            Act::Client(0, Step::Collect),
-            Heard::Discovery(0, 1, Ending::Faultless, Found::Nobody),
-        ),
-    ];
-    moves(&rt, alloc, &mut stage, &all);
+    let all = moves! {
+        Join(1) => Number(0), 0 Full(0) => Number(0), Work(9) => Worked(AllLeft),
+        0 Collect => Discovery(0, 1, Faultless, Nobody),
+    };
+    moves(&rt, alloc, &mut stage, all);
     check(&rt, stage.state().counts.frames == (8, 0));
 }

@@ -1,12 +1,6 @@
 //! What arguments ask for, if only values show it.
-use super::program::{Due, check, says, status_of};
-use rdm_arguments::{Complaint, Job, PortKind, RunJob, WordsFault, complaint_of, parse_words};
-use rdm_port::Reason;
-use std::alloc::Global;
-use std::io;
-use std::process::Abort;
-use std::sync::Wait;
-use std::thread::Threads;
+use crate::tests::*;
+use rdm_arguments::{Complaint, Job, PortKind, RunJob, WordsFault, complaint_of};
 
 // The arguments ask for a session of the file `file` over this port.
 fn names(rt: &impl Abort, alloc: Global, words: &[&str], port: PortKind) {

@@ -1,16 +1,14 @@
 //! Outcomes that aren't those of the log are detected.
-use super::program::check;
+use crate::tests::*;
 use arrayvec::ArrayVec;
-use rdm_agent::{AgentFault, Kind};
+use rdm_agent::AgentFault;
 use rdm_client::Told;
 use rdm_join::{LineEvent, Status};
 use rdm_log::{ClientId, Completion, Config, Log};
 use rdm_queue::Session;
 use rdm_reports::{Discovered, Outcomes};
 use rdm_serving::are_logged;
-use rdm_wire::{ReqClass, Request, Uid};
-use std::alloc::Global;
-use std::process::Abort;
+use rdm_wire::{ReqClass, Request};
 
 // A session with one client.
 fn joined(alloc: Global) -> Option<(Session, ClientId)> {

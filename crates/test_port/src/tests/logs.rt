@@ -1,15 +1,8 @@
 //! Logs that fail at each byte.
-use super::program::{SCENE, SCENE_FILE, check, check_at};
-use rdm_arguments::parse_words;
+use crate::tests::*;
 use rdm_line::SimLine;
-use rdm_port::{NoLine, Reason, Silent, carry_out};
-use rdm_reports::{LogOutput, OpensLog};
-use std::alloc::Global;
-use std::io;
-use std::io::{ErrorKind, Read, Write};
-use std::process::Abort;
-use std::sync::Wait;
-use std::thread::Threads;
+use rdm_port::{NoLine, carry_out};
+use rdm_reports::OpensLog;
 
 /// A log in memory with a limited number of bytes.
 #[derive(Drop)]

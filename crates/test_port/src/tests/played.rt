@@ -2,13 +2,11 @@
 //! more.
 ghost use Rattle.std.specs.Prelude.{⊤};
 
-use super::program::check;
-use rdm_agent::Kind;
+use crate::tests::*;
 use rdm_client::{BoxedAsk, CallFault, Client, Collected, Desk, Told};
 use rdm_files::ClientCall;
 use rdm_serving::{AskTicket, RequestTicket, ServeFault, Watch, play};
 use rdm_wire::Request;
-use std::alloc::Global;
 use std::sync::atomic::{AtomicBool, Ordering};
 use test_rig::cancels;
 

@@ -1,14 +1,9 @@
 //! The program over a reader and a writer, two files for it, and what a test expects.
 ghost use Rattle.std.specs.Prelude.{IsTrue};
 
-use rdm_arguments::parse_words;
+use crate::tests::*;
 use rdm_port::perform;
-use std::alloc::Global;
 use std::fmt::Display;
-use std::io::{Read, Write};
-use std::process::Abort;
-use std::sync::Wait;
-use std::thread::Threads;
 
 /// What is printed, and the status.
 pub type Due<'a> = (&'a str, u8);

@@ -1,16 +1,6 @@
 //! Readers that fail at each read.
 use super::logs::carries;
-use super::program::{
-    Due, EXPLAIN, INCREMENTAL, LOCKED, LOG, LOG_FILE, RINGS, SCENE, SCENE_FILE, SESSION,
-    SESSION_FILE, check, check_at, says, status_of,
-};
-use rdm_port::Reason;
-use std::alloc::Global;
-use std::io;
-use std::io::{ErrorKind, Read};
-use std::process::Abort;
-use std::sync::Wait;
-use std::thread::Threads;
+use crate::tests::*;
 
 const NO_FILE: Due<'static> = ("fault: file\n", 1);
 

@@ -1,14 +1,11 @@
 //! Runs on stored replies.
-use super::program::check;
-use rdm_agent::{DEFAULT_BUDGET, Kind, Search};
+use crate::tests::*;
+use rdm_agent::{DEFAULT_BUDGET, Search};
 use rdm_files::Remark;
 use rdm_join::{LineEvent, LineReply};
 use rdm_line::TapeLine;
-use rdm_port::Silent;
-use rdm_reports::{Discovery, LogOutput, Progress, discover, report};
-use rdm_wire::{Uid, UidSet};
-use std::alloc::Global;
-use std::process::Abort;
+use rdm_reports::{Discovery, Progress, discover, report};
+use rdm_wire::UidSet;
 
 // This many silences, and then this many replies that spell no UID.
 fn tape(rt: &impl Abort, alloc: Global, silences: usize, noises: usize) -> TapeLine {

@@ -1,14 +1,5 @@
 //! Writers that fail at each byte.
-use super::program::{
-    Due, EXPLAIN, INCREMENTAL, LOCKED, LOG, LOG_FILE, RINGS, SCENE, SCENE_FILE, SESSION,
-    SESSION_FILE, check_at, status_of,
-};
-use std::alloc::Global;
-use std::io;
-use std::io::{ErrorKind, Write};
-use std::process::Abort;
-use std::sync::Wait;
-use std::thread::Threads;
+use crate::tests::*;
 
 // Takes at most this many bytes at each write, is interrupted before each, and takes none after this many.
 #[derive(Drop)]
@@ -84,59 +75,25 @@ fn fails_in_each_form<T: Threads + Wait + Abort + Sync>(rt: &T, alloc: Global, r
     }
 }
 
+macro_rules! rows {
+    ($($words:expr, $file:literal => $text:literal, $status:literal;)*) => {
+        [$(Row { words: &$words, file: $file, due: ($text, $status) }),*]
+    };
+}
+
 // What commands print in one line. The file is only for commands that read one.
-static LINES: [Row<'static>; 10] = [
-    Row {
-        words: &["decode", ""],
-        file: "",
-        due: ("silent\n", 0),
-    },
-    Row {
-        words: &["decode", "fe"],
-        file: "",
-        due: ("collision\n", 0),
-    },
-    Row {
-        words: &["decode", "fefefefefefefeaafa7ffa75aa55aa55aa55ab55ae57eff5"],
-        file: "",
-        due: ("7a70:00000001\n", 0),
-    },
-    Row {
-        words: &["encode", "7a70:00000001"],
-        file: "",
-        due: ("fefefefefefefeaafa7ffa75aa55aa55aa55ab55ae57eff5\n", 0),
-    },
-    Row {
-        words: &["decode", "f"],
-        file: "",
-        due: ("fault: hex\n", 1),
-    },
-    Row {
-        words: &["encode", "f"],
-        file: "",
-        due: ("fault: uid\n", 1),
-    },
-    Row {
-        words: &["encode"],
-        file: "",
-        due: ("fault: command line\n", 2),
-    },
-    Row {
-        words: &["discover", "f"],
-        file: "[",
-        due: ("fault: json\n", 1),
-    },
-    Row {
-        words: &["run", "f"],
-        file: "{}",
-        due: ("fault: scene\n", 1),
-    },
-    Row {
-        words: &["explain", "f"],
-        file: "{}",
-        due: ("fault: line 1\n", 1),
-    },
-];
+static LINES: [Row<'static>; 10] = rows! {
+    ["decode", ""], "" => "silent\n", 0;
+    ["decode", "fe"], "" => "collision\n", 0;
+    ["decode", "fefefefefefefeaafa7ffa75aa55aa55aa55ab55ae57eff5"], "" => "7a70:00000001\n", 0;
+    ["encode", "7a70:00000001"], "" => "fefefefefefefeaafa7ffa75aa55aa55aa55ab55ae57eff5\n", 0;
+    ["decode", "f"], "" => "fault: hex\n", 1;
+    ["encode", "f"], "" => "fault: uid\n", 1;
+    ["encode"], "" => "fault: command line\n", 2;
+    ["discover", "f"], "[" => "fault: json\n", 1;
+    ["run", "f"], "{}" => "fault: scene\n", 1;
+    ["explain", "f"], "{}" => "fault: line 1\n", 1;
+};
 
 #[test]
 fn a_writer_of_a_line_fails(rt: HostRuntime) {

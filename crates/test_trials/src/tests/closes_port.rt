@@ -1,12 +1,6 @@
 //! A close at each position, with a mutex and a simulated line: between any two steps, and during each exchange.
-use super::due::{EXCHANGES, accepted_before, due, sees};
-use rdm_agent::Kind;
-use rdm_log::{AskFault, SubmitFault};
-use std::alloc::Global;
-use std::sync::Wait;
-use std::test::Fail;
-use test_rig::{Act, Heard, Move, Refusal, Step, Stop, one_device};
-use test_stage::{PortSetup, play_port};
+use super::due::{EXCHANGES, accepted_before, call, due, sees};
+use crate::tests::*;
 
 /// The last position of a close: after the pause, three calls, a turn without a frame, the resume, a turn for each
 /// exchange, and three collects.
@@ -58,21 +52,10 @@ fn act(index: usize) -> Act {
 // The result of the act at this position.
 fn wanted(index: usize, closing: Closing) -> Heard {
     match index {
-        0 | 5 => Heard::Done,
+        0 | 5 => Done,
         1..=3 => call(index, index >= closing.before),
         17..=19 => due(closing.exchanges, closing.accepted)[index % 17 % 3],
-        _ => Heard::Worked(Stop::Turns),
-    }
-}
-
-// The result of the call at this position.
-fn call(index: usize, is_closed: bool) -> Heard {
-    match index {
-        1 if is_closed => Heard::Refused(Refusal::Submit(SubmitFault::Closed, 0)),
-        2 if is_closed => Heard::Refused(Refusal::Ask(AskFault::Closed, 0)),
-        _ if is_closed => Heard::Refused(Refusal::Ask(AskFault::Closed, 1)),
-        3 => Heard::Number(1),
-        _ => Heard::Number(0),
+        _ => Worked(Turns),
     }
 }
 
@@ -80,23 +63,23 @@ fn call(index: usize, is_closed: bool) -> Heard {
 static AFTER: [Move; 4] = [
     (
         Act::Client(0, Step::Submit(2)),
-        Heard::Refused(Refusal::Submit(SubmitFault::Closed, 2)),
+        Refused(Refusal::Submit(SubmitFault::Closed, 2)),
     ),
     (
         Act::Client(0, Step::Discover(Kind::Full, 3)),
-        Heard::Refused(Refusal::Ask(AskFault::Closed, 3)),
+        Refused(Refusal::Ask(AskFault::Closed, 3)),
     ),
-    (Act::Client(0, Step::Collect), Heard::Nothing),
-    (Act::Work(1), Heard::Worked(Stop::Turns)),
+    (Act::Client(0, Step::Collect), Nothing),
+    (Act::Work(1), Worked(Turns)),
 ];
 
 // All acts with the close, and then those of `AFTER`.
 fn moves(alloc: Global, closing: Closing) -> Result<Vec<Move>, Fail> {
     let mut moves = Vec::new(alloc);
-    moves.push((Act::Join(4), Heard::Number(0)))?;
+    moves.push((Act::Join(4), Number(0)))?;
     for index in 0..=LAST_INDEX {
         if index == closing.before {
-            moves.push((Act::Close, Heard::Done))?;
+            moves.push((Act::Close, Done))?;
         }
         if index < LAST_INDEX {
             moves.push((act(index), wanted(index, closing)))?;

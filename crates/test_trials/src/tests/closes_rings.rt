@@ -1,11 +1,6 @@
 //! A close at each position, with ring buffers and a simulated line.
 use super::due::{EXCHANGES, due, seen, sees};
-use rdm_agent::Kind;
-use rdm_join::Status;
-use std::alloc::Global;
-use std::test::Fail;
-use test_rig::{Act, Heard, Move, Step, Stop, one_device};
-use test_stage::{LanesOver, Setup, counts_are, play_lanes};
+use crate::tests::*;
 
 /// The last position of a close: after the pause, three calls, a turn for each of them, the resume, and a turn for each
 /// exchange.
@@ -16,15 +11,12 @@ const COLLECT: Act = Act::Client(0, Step::Collect);
 // The move at this position. A turn takes a call of the client, then one of the operator, and then makes an exchange.
 fn step(index: usize) -> Move {
     match index {
-        0 => (Act::Pause, Heard::Done),
-        1 => (Act::Client(0, Step::Submit(0)), Heard::Done),
-        2 => (Act::Client(0, Step::Discover(Kind::Full, 0)), Heard::Done),
-        3 => (
-            Act::Client(0, Step::Discover(Kind::Incremental, 1)),
-            Heard::Done,
-        ),
-        7 => (Act::Resume, Heard::Done),
-        _ => (Act::Work(1), Heard::Worked(Stop::Turns)),
+        0 => (Act::Pause, Done),
+        1 => (Act::Client(0, Step::Submit(0)), Done),
+        2 => (Act::Client(0, Step::Discover(Kind::Full, 0)), Done),
+        3 => (Act::Client(0, Step::Discover(Kind::Incremental, 1)), Done),
+        7 => (Act::Resume, Done),
+        _ => (Act::Work(1), Worked(Turns)),
     }
 }
 
@@ -50,11 +42,11 @@ fn accepted_before(index: usize) -> usize {
 
 // A call after the close ends at once, and no frame is sent.
 static AFTER: [Move; 5] = [
-    (COLLECT, Heard::Nothing),
-    (Act::Client(0, Step::Submit(2)), Heard::Done),
-    (Act::Work(2), Heard::Worked(Stop::Turns)),
-    (COLLECT, Heard::Request(2, Status::FailedToSend)),
-    (COLLECT, Heard::Nothing),
+    (COLLECT, Nothing),
+    (Act::Client(0, Step::Submit(2)), Done),
+    (Act::Work(2), Worked(Turns)),
+    (COLLECT, Request(2, FailedToSend)),
+    (COLLECT, Nothing),
 ];
 
 // All moves, a few more turns, and their results. Each call gets exactly one outcome, whether it was taken before the
@@ -63,14 +55,14 @@ fn moves(alloc: Global, close_at: usize) -> Result<Vec<Move>, Fail> {
     let mut moves = Vec::new(alloc);
     for index in 0..=LAST_INDEX {
         if index == close_at {
-            moves.push((Act::Close, Heard::Done))?;
+            moves.push((Act::Close, Done))?;
         }
         if index < LAST_INDEX {
             moves.push(step(index))?;
         }
     }
     let exchanges = exchanges_before(close_at);
-    moves.push((Act::Work(4), Heard::Worked(Stop::Turns)))?;
+    moves.push((Act::Work(4), Worked(Turns)))?;
     moves.push((Act::Client(0, Step::Look), sees(exchanges)))?;
     for heard in due(exchanges, 3) {
         moves.push((COLLECT, heard))?;

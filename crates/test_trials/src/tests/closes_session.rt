@@ -1,10 +1,6 @@
 //! A close at each position, in one thread and with a simulated line.
-use super::due::{EXCHANGES, accepted_before, due, seen, sees};
-use rdm_agent::{DEFAULT_BUDGET, Kind};
-use rdm_log::{AskFault, JoinFault, SubmitFault};
-use std::alloc::Global;
-use std::test::Fail;
-use test_rig::{Act, Heard, Move, Refusal, Step, moved, one_device, open_session};
+use super::due::{EXCHANGES, accepted_before, call, due, seen, sees};
+use crate::tests::*;
 
 /// The last position of a close: after the pause, three calls, a take without a frame, the resume, a take and a deliver
 /// for each exchange, and three collects.
@@ -32,7 +28,7 @@ fn frames_before(index: usize) -> usize {
 // The result of the act at `index`, if the close comes before the act at `close_at`.
 fn wanted(index: usize, close_at: usize) -> Heard {
     match index {
-        0 | 5 => Heard::Done,
+        0 | 5 => Done,
         1..=3 => call(index, index >= close_at),
         28..=30 => {
             let due = due(frames_before(close_at), accepted_before(close_at));
@@ -40,55 +36,41 @@ fn wanted(index: usize, close_at: usize) -> Heard {
         }
         _ if index % 2 == 0 => taken(index, close_at),
         // The reply to a frame that was taken before the close still counts.
-        _ if index <= close_at => Heard::Done,
-        _ => Heard::Nothing,
-    }
-}
-
-// The result of the call at this position.
-fn call(index: usize, is_closed: bool) -> Heard {
-    match index {
-        1 if is_closed => Heard::Refused(Refusal::Submit(SubmitFault::Closed, 0)),
-        2 if is_closed => Heard::Refused(Refusal::Ask(AskFault::Closed, 0)),
-        _ if is_closed => Heard::Refused(Refusal::Ask(AskFault::Closed, 1)),
-        3 => Heard::Number(1),
-        _ => Heard::Number(0),
+        _ if index <= close_at => Done,
+        _ => Nothing,
     }
 }
 
 // The result of a take at this position.
 fn taken(index: usize, close_at: usize) -> Heard {
     if index == 4 || index >= close_at {
-        return Heard::Nothing;
+        return Nothing;
     }
-    Heard::Frame((index.saturating_sub(6) / 2 % 256) as u8)
+    Frame((index.saturating_sub(6) / 2 % 256) as u8)
 }
 
 // After the close each call is refused, no more outcomes come, and no frame is sent.
 static AFTER: [Move; 5] = [
     (
         Act::Client(0, Step::Submit(2)),
-        Heard::Refused(Refusal::Submit(SubmitFault::Closed, 2)),
+        Refused(Refusal::Submit(SubmitFault::Closed, 2)),
     ),
     (
         Act::Client(0, Step::Discover(Kind::Full, 3)),
-        Heard::Refused(Refusal::Ask(AskFault::Closed, 3)),
+        Refused(Refusal::Ask(AskFault::Closed, 3)),
     ),
-    (
-        Act::Join(0),
-        Heard::Refused(Refusal::Join(JoinFault::Closed)),
-    ),
-    (Act::Take, Heard::Nothing),
-    (Act::Client(0, Step::Collect), Heard::Nothing),
+    (Act::Join(0), Refused(Refusal::Join(JoinFault::Closed))),
+    (Act::Take, Nothing),
+    (Act::Client(0, Step::Collect), Nothing),
 ];
 
 // All acts, with a close before the one at this position, and then those of `AFTER`.
 fn moves(alloc: Global, close_at: usize) -> Result<Vec<Move>, Fail> {
     let mut moves = Vec::new(alloc);
-    moves.push((Act::Join(4), Heard::Number(0)))?;
+    moves.push((Act::Join(4), Number(0)))?;
     for index in 0..=LAST_INDEX {
         if index == close_at {
-            moves.push((Act::Close, Heard::Done))?;
+            moves.push((Act::Close, Done))?;
         }
         if index < LAST_INDEX {
             moves.push((act(index), wanted(index, close_at)))?;

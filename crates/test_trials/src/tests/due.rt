@@ -1,7 +1,6 @@
 //! A pause, a request, two discoveries and a resume; one run answers both discoveries in ten exchanges, and then the
 //! request is sent. Here is what becomes of them if a close comes in between.
-use rdm_join::Status;
-use test_rig::{Ending, Found, Heard};
+use crate::tests::*;
 
 /// How many exchanges there are without a close: ten of the run, and one of the request.
 pub const EXCHANGES: usize = 11;
@@ -12,7 +11,7 @@ pub const EXCHANGES: usize = 11;
 /// Before the first exchange the request comes first, since no run has begun. Later the run comes first. It is aborted
 /// unless all its ten exchanges were made. By the fifth it has found the device.
 pub fn due(exchanges: usize, accepted: usize) -> [Heard; 3] {
-    let mut due = [Heard::Nothing; 3];
+    let mut due = [Nothing; 3];
     for (due, heard) in due.iter_mut().zip(&all_due(exchanges)[..accepted.min(3)]) {
         *due = *heard;
     }
@@ -22,9 +21,9 @@ pub fn due(exchanges: usize, accepted: usize) -> [Heard; 3] {
 fn all_due(exchanges: usize) -> [Heard; 3] {
     if exchanges == 0 {
         [
-            Heard::Request(0, Status::FailedToSend),
-            Heard::Discovery(0, 0, Ending::Aborted, Found::Nobody),
-            Heard::Discovery(1, 0, Ending::Aborted, Found::Nobody),
+            Request(0, FailedToSend),
+            Discovery(0, 0, Aborted, Nobody),
+            Discovery(1, 0, Aborted, Nobody),
         ]
     } else {
         [
@@ -38,38 +37,49 @@ fn all_due(exchanges: usize) -> [Heard; 3] {
 // The outcome of the discovery with this tag.
 fn discovery(tag: u64, exchanges: usize) -> Heard {
     if exchanges < 5 {
-        Heard::Discovery(tag, 1, Ending::Aborted, Found::Nobody)
+        Discovery(tag, 1, Aborted, Nobody)
     } else if exchanges < 10 {
-        Heard::Discovery(tag, 1, Ending::Aborted, Found::First)
+        Discovery(tag, 1, Aborted, First)
     } else {
-        Heard::Discovery(tag, 1, Ending::Faultless, Found::First)
+        Discovery(tag, 1, Faultless, First)
     }
 }
 
 fn request(exchanges: usize) -> Heard {
     if exchanges < EXCHANGES {
-        Heard::Request(0, Status::FailedToSend)
+        Request(0, FailedToSend)
     } else {
-        Heard::Answered(0, 1, 2)
+        Answered(0, 1, 2)
     }
 }
 
 /// The run whose devices are seen after this many exchanges, and which they are.
 pub fn seen(exchanges: usize) -> (u64, Found) {
     if exchanges < 10 {
-        (0, Found::Nobody)
+        (0, Nobody)
     } else {
-        (1, Found::First)
+        (1, First)
     }
 }
 
 /// The same, as what a client sees.
 pub fn sees(exchanges: usize) -> Heard {
     let (run, found) = seen(exchanges);
-    Heard::Sees(run, found)
+    Sees(run, found)
 }
 
 /// How many of the three calls were accepted before a close at this position, if they are at the positions 1, 2 and 3.
 pub fn accepted_before(index: usize) -> usize {
     index.max(1).saturating_sub(1).min(3)
+}
+
+/// The result of the call at this position, 1, 2 or 3.
+pub fn call(index: usize, is_closed: bool) -> Heard {
+    match index {
+        1 if is_closed => Refused(Refusal::Submit(SubmitFault::Closed, 0)),
+        2 if is_closed => Refused(Refusal::Ask(AskFault::Closed, 0)),
+        _ if is_closed => Refused(Refusal::Ask(AskFault::Closed, 1)),
+        3 => Number(1),
+        _ => Number(0),
+    }
 }

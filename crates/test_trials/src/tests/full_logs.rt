@@ -1,12 +1,6 @@
 //! Logs of each size: what is refused for lack of free entries, and that nothing else is.
-use rdm_agent::{DEFAULT_BUDGET, Kind};
+use crate::tests::*;
 use rdm_line::SimLine;
-use rdm_log::{AskFault, JoinFault, SubmitFault};
-use std::alloc::Global;
-use std::test::Fail;
-use test_rig::{
-    Act, Heard, Refusal, SessionStage, Stage, State, Step, Stop, one_device, open_session,
-};
 
 // A join, a pause, a request, two discoveries and a resume. After that eleven exchanges are made.
 static ACTS: [Act; 6] = [
@@ -42,12 +36,12 @@ fn free_by_hand(state: &State, size: usize) -> usize {
 fn is_refused(heard: Heard) -> bool {
     matches!(
         heard,
-        Heard::Refused(
+        Refused(
             Refusal::LogFull
                 | Refusal::Join(JoinFault::LogFull)
                 | Refusal::Submit(SubmitFault::LogFull, _)
                 | Refusal::Ask(AskFault::LogFull, _)
-        ) | Heard::Worked(Stop::LogFull)
+        ) | Worked(Stop::LogFull)
     )
 }
 
@@ -69,13 +63,13 @@ fn fills(alloc: Global, stage: &mut SessionStage<SimLine>, size: usize) -> bool 
 fn closes(alloc: Global, stage: &mut SessionStage<SimLine>) -> bool {
     stage.act(alloc, Act::Close);
     for _ in 0..stage.state().counts.accepted {
-        if stage.act(alloc, Act::Client(0, Step::Collect)) == Heard::Nothing {
+        if stage.act(alloc, Act::Client(0, Step::Collect)) == Nothing {
             return false;
         }
     }
     let last = stage.act(alloc, Act::Client(0, Step::Collect));
     let state = stage.state();
-    last == Heard::Nothing && state.is_closed && state.is_idle
+    last == Nothing && state.is_closed && state.is_idle
 }
 
 #[test]

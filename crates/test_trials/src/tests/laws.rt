@@ -25,15 +25,11 @@ mod scenes;
 
 use self::report::{LEAVES, Report, report_of};
 use self::scenes::{changing_scene, staying_scene};
-use rdm_agent::{DEFAULT_BUDGET, Search};
+use crate::tests::*;
+use rdm_agent::Search;
 use rdm_line::{Scene, SimLine};
 use rdm_queue::Session;
 use rdm_scenes::laws;
-use std::alloc::Global;
-use std::sync::Wait;
-use std::test::Fail;
-use std::thread::Threads;
-use test_rig::{Found, state_of};
 
 // How the client and the worker share the session.
 #[derive(Clone, Copy, Debug, PartialEq, Eq)]
@@ -138,7 +134,7 @@ fn devices_that_stay_are_reported_whole(rt: HostRuntime) -> Result<(), Fail> {
         for with in [With::Mutex, With::Rings] {
             let scene = staying_scene(rt.alloc()).ok_or("no scene")?;
             let ran = stays(&rt, rt.alloc(), with, scene).ok_or("no session")?;
-            let both = Found::FirstAndSecond;
+            let both = FirstAndSecond;
             assert_eq!(rt; ran.0, report_of(both, both), "{with:?}");
             assert_eq!(rt; state_of(&ran.1).counts.frames, (37, 0), "{with:?}");
         }
@@ -152,11 +148,7 @@ fn a_device_that_left_is_reported_no_more(rt: HostRuntime) -> Result<(), Fail> {
         for with in [With::Mutex, With::Rings] {
             let scene = changing_scene(rt.alloc(), LEAVES).ok_or("no scene")?;
             let ran = changes(&rt, rt.alloc(), with, scene).ok_or("no session")?;
-            assert_eq!(rt;
-                ran.0,
-                report_of(Found::FirstAndGone, Found::First),
-                "{with:?}"
-            );
+            assert_eq!(rt; ran.0, report_of(FirstAndGone, First), "{with:?}");
         }
     }
     Ok(())

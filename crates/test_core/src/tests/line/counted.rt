@@ -1,9 +1,6 @@
 //! A line of one's own has its failures counted.
 use super::rig::meets;
-use crate::tests::checks::check;
-use rdm_join::LineReply;
-use rdm_line::{Asks, Counted, Line};
-use rdm_wire::Frame;
+use crate::tests::*;
 
 // Replies with how many frames it has received, but every third time it fails.
 #[derive(Drop)]

@@ -1,15 +1,7 @@
 //! Scenes, lines made from them, and the lines' replies.
-use crate::tests::checks::{bytes_of, check, frame_of};
-use rdm_join::{LineFault, LineReply};
-use rdm_line::{
-    Collision, CollisionBytes, Line, Parameter, ParameterPart, Parameters, Scene, SceneDevice,
-    SceneDevices, SimLine,
-};
-use rdm_wire::{
-    Device, Frame, ReqClass, Request, Uid, UidRange, encode_branch, encode_mute, encode_request,
-};
-use std::alloc::Global;
-use std::process::Abort;
+use crate::tests::*;
+use rdm_line::{Parameter, ParameterPart, Parameters, Scene, SceneDevice, SceneDevices};
+use rdm_wire::{encode_branch, encode_mute, encode_request};
 
 fn controller() -> Uid {
     Uid::new(0x7a70, 0x100)

@@ -1,10 +1,6 @@
 //! What the simulated line does after frames that no command of the program sends, and after exchanges that fail.
 use super::rig::{Ask, Row, collisions, line_of, noise, plays, two_devices, two_parts};
-use crate::tests::checks::check;
-use rdm_line::Collision;
-use rdm_wire::Uid;
-use std::alloc::Global;
-use std::process::Abort;
+use crate::tests::*;
 
 // The first device's own reply to a branch, without preamble bytes.
 const TEXT: &str = "aaba57be75aa55aa55aa55ab55ae57eb55";

@@ -1,10 +1,8 @@
 //! A line over streams of text that fail: what an exchange then reads.
 use super::rig::meets;
-use crate::tests::checks::check;
-use rdm_line::{Line, StreamLine};
+use crate::tests::*;
 use std::io;
 use std::io::{ErrorKind, Read, Write};
-use std::process::Abort;
 
 // Adds a line of this many digits, and how it ends.
 fn add_digits(rt: &impl Abort, text: &mut Vec<u8>, count: usize, end: &str) {

@@ -1,9 +1,6 @@
 //! A tape gives its events in order, and then fails.
 use super::rig::meets;
-use crate::tests::checks::check;
-use rdm_join::{LineEvent, LineReply};
-use rdm_line::{Line, TapeLine};
-use std::process::Abort;
+use crate::tests::*;
 
 // Adds a reply of these bytes.
 fn adds(rt: &impl Abort, events: &mut Vec<LineEvent>, bytes: &[u8]) {

@@ -1,10 +1,7 @@
 //! A list of events, and its answers. `test_memory` has answers to discoveries, and to hundreds of events.
 use super::sessions::{CLIENT, get, reply, session_without_clients};
-use crate::tests::checks::{check, check_eq};
-use rdm_join::Status;
+use crate::tests::*;
 use rdm_log::{Answer, BoxedOutcome, Event};
-use std::alloc::Global;
-use std::process::Abort;
 
 /// The frame of the GET of the parameter `0060`, with number 0.
 const FRAME: [u8; 26] = [

@@ -1,7 +1,6 @@
 //! The texts of the faults.
-use crate::tests::checks::{check_eq, says};
+use crate::tests::*;
 use rdm_log::{JoinFault, LogFull, NotAsked, NotIdle, WorkFault};
-use rdm_wire::NoMemory;
 
 #[test]
 fn tells_why_a_join_is_refused(rt: HostRuntime) {
@@ -36,8 +35,8 @@ fn tells_why_work_is_refused(rt: HostRuntime) {
 
 #[test]
 fn tells_the_other_faults(rt: HostRuntime) {
-    says(&rt, rt.alloc(), &NoMemory, "out of memory");
-    says(&rt, rt.alloc(), &LogFull, "the log is full");
-    says(&rt, rt.alloc(), &NotAsked, "no reply is awaited");
-    says(&rt, rt.alloc(), &NotIdle, "the session isn't idle");
+    texts! { rt;
+        NoMemory => "out of memory", LogFull => "the log is full", NotAsked => "no reply is awaited",
+        NotIdle => "the session isn't idle",
+    }
 }

@@ -2,13 +2,9 @@
 ghost use Rattle.std.specs.Prelude.{◌≡◌, []};
 
 use super::sessions::{CLIENT, get, log, reply, session};
-use crate::tests::checks::{check, check_eq};
-use rdm_agent::{DEFAULT_BUDGET, Kind, Search};
+use crate::tests::*;
 use rdm_log::{Entry, Log, LogFull, Opening};
 use rdm_queue::Session;
-use rdm_wire::Uid;
-use std::alloc::Global;
-use std::process::Abort;
 
 /// The reply of `1234:00000001` to a branch.
 const SPELT: [u8; 24] = [

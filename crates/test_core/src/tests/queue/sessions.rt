@@ -2,15 +2,9 @@
 ghost use Rattle.std.specs.Prelude.{◌≡◌, []};
 ghost use Rattle.rdm_log.specs.log.Config.{IsConfig};
 
-use crate::tests::checks::{check, check_eq};
-use arrayvec::ArrayVec;
-use rdm_agent::{DEFAULT_BUDGET, Search};
-use rdm_join::{LineEvent, LineReply};
+use crate::tests::*;
 use rdm_log::{ClientId, Config, Log, Setup};
 use rdm_queue::Session;
-use rdm_wire::{ReqClass, Request, Uid};
-use std::alloc::Global;
-use std::process::Abort;
 
 /// The client of these sessions.
 pub const CLIENT: ClientId = ClientId(0);

@@ -1,19 +1,17 @@
 //! Boxed callbacks.
 use super::outcomes::found;
+use crate::tests::*;
 use rdm_client::{AskCallback, AskTold, BoxedAsk, Callback, Collected, Tells, TellsAsk, Told};
-use rdm_join::{ReplyHead, Status};
+use rdm_join::ReplyHead;
 use rdm_log::Completion;
 use rdm_wire::{AckType, RespClass};
-use std::alloc::Global;
 use std::sync::Arc;
 use std::sync::atomic::{AtomicU64, Ordering};
-use std::test::Fail;
-use test_rig::{Ending, Found, Heard, told};
 
 // The completion of a request that was answered with two bytes.
 fn answered(alloc: Global) -> Result<Completion, Fail> {
     Ok(Completion {
-        status: Status::Completed,
+        status: Completed,
         reply: Some(ReplyHead {
             ack: AckType::Ack,
             class: RespClass::Get,
@@ -47,7 +45,7 @@ fn calls_the_box_with_the_answer(rt: HostRuntime) -> Result<(), Fail> {
     })?;
     let done = answered(rt.alloc())?;
     let told = Callback::new(7, closure).spend(done);
-    assert_eq!(rt; of_request(told), Heard::Answered(7, 1, 0));
+    assert_eq!(rt; of_request(told), Answered(7, 1, 0));
     assert_eq!(rt; calls.load(Ordering::SeqCst), 0x0062);
     Ok(())
 }
@@ -61,7 +59,7 @@ fn tells_a_cancelled_callback_that_its_request_was_not_sent(rt: HostRuntime) -> 
         Told { tag: 8, done }
     })?;
     let told = Callback::new(8, closure).cancel(rt.alloc());
-    assert_eq!(rt; of_request(told), Heard::Request(8, Status::FailedToSend));
+    assert_eq!(rt; of_request(told), Request(8, FailedToSend));
     assert_eq!(rt; calls.load(Ordering::SeqCst), 1);
     Ok(())
 }
@@ -81,10 +79,7 @@ fn calls_the_box_with_the_devices(rt: HostRuntime) -> Result<(), Fail> {
     })?;
     let done = found(rt.alloc(), 4)?;
     let told = AskCallback::new(9, closure).spend(done);
-    assert_eq!(rt;
-        of_ask(told),
-        Heard::Discovery(9, 4, Ending::Faultless, Found::First)
-    );
+    assert_eq!(rt; of_ask(told), Discovery(9, 4, Faultless, First));
     assert_eq!(rt; calls.load(Ordering::SeqCst), 5);
     Ok(())
 }
@@ -98,10 +93,7 @@ fn tells_a_cancelled_callback_that_no_run_was_begun(rt: HostRuntime) -> Result<(
         AskTold { tag: 10, done }
     })?;
     let told = AskCallback::new(10, closure).cancel();
-    assert_eq!(rt;
-        of_ask(told),
-        Heard::Discovery(10, 0, Ending::Aborted, Found::Nobody)
-    );
+    assert_eq!(rt; of_ask(told), Discovery(10, 0, Aborted, Nobody));
     assert_eq!(rt; calls.load(Ordering::SeqCst), 1);
     Ok(())
 }

@@ -1,11 +1,8 @@
 //! Desks.
 use super::outcomes::{ask_outcome, ended, found, request_outcome};
+use crate::tests::*;
 use rdm_client::{Callback, Desk, Full, Misdelivered, Tells, Told};
-use rdm_join::Status;
 use rdm_log::{BoxedOutcome, Completion};
-use std::alloc::Global;
-use std::test::Fail;
-use test_rig::{AskNote, Ending, Found, Heard, Note, boxed_told, cancels, told};
 
 // The result of a settle.
 #[derive(Clone, Copy, Debug, PartialEq, Eq)]
@@ -31,17 +28,17 @@ fn spends_the_callback_that_it_has_a_place_for(rt: HostRuntime) -> Result<(), Fa
     let mut desk: Desk = Desk::new(rt.alloc(), 1)?;
     let first_back = holds(rt.alloc(), &mut desk, Callback::new(1, first));
     let second_back = holds(rt.alloc(), &mut desk, Callback::new(2, second));
-    let spent = desk.settle(request_outcome(rt.alloc(), 0, Status::Timeout));
+    let spent = desk.settle(request_outcome(rt.alloc(), 0, Timeout));
     let back = desk.settle(request_outcome(rt.alloc(), 1, Status::Checksum));
     let left = cancels(rt.alloc(), desk.end());
     assert_eq!(rt; (first_back, second_back, left), (None, Some(2), 0));
     assert_eq!(rt;
         spent.ok().map(|one| told(&Some(one))),
-        Some(Heard::Request(1, Status::Timeout))
+        Some(Request(1, Timeout))
     );
     assert_eq!(rt;
         back.err().map(|(_, one)| boxed_told(&one)),
-        Some(Heard::Request(1, Status::Checksum))
+        Some(Request(1, Status::Checksum))
     );
     Ok(())
 }
@@ -67,10 +64,7 @@ fn holds_four_discoveries(rt: HostRuntime) -> Result<(), Fail> {
     let left = cancels(rt.alloc(), desk.end());
     assert!(rt; held && was_full && has_a_place);
     assert_eq!(rt; refused, Some((Full, AskNote(4))));
-    assert_eq!(rt;
-        spent,
-        Settled::Spent(Heard::Discovery(0, 1, Ending::Faultless, Found::First))
-    );
+    assert_eq!(rt; spent, Settled::Spent(Discovery(0, 1, Faultless, First)));
     assert_eq!(rt; (held_after, left), (3, 4));
     Ok(())
 }
@@ -84,7 +78,7 @@ fn holds_both(desk: &mut Desk<Note, AskNote>) -> bool {
 }
 
 fn ask_spent(tag: u64, run: u64) -> Settled {
-    Settled::Spent(Heard::Discovery(tag, run, Ending::Faultless, Found::First))
+    Settled::Spent(Discovery(tag, run, Faultless, First))
 }
 
 #[test]
@@ -95,7 +89,7 @@ fn keeps_requests_and_discoveries_apart(rt: HostRuntime) -> Result<(), Fail> {
     let fourth_run = found(rt.alloc(), 4)?;
     let mut desk: Desk<Note, AskNote> = Desk::new(rt.alloc(), 2)?;
     let held = holds_both(&mut desk);
-    let first = settles(&mut desk, request_outcome(rt.alloc(), 0, Status::Timeout));
+    let first = settles(&mut desk, request_outcome(rt.alloc(), 0, Timeout));
     let second = settles(&mut desk, first_run);
     let third = desk.settle_request(ended(rt.alloc(), Status::Checksum));
     let none = desk.settle_request(ended(rt.alloc(), Status::TooShort));
@@ -104,14 +98,11 @@ fn keeps_requests_and_discoveries_apart(rt: HostRuntime) -> Result<(), Fail> {
     let handed = desk.settle_ask(fourth_run);
     let is_handed_back = matches!(&handed, Err((Misdelivered, done)) if done.run() == 4);
     let left = cancels(rt.alloc(), desk.end());
-    assert_eq!(rt; first, Settled::Spent(Heard::Request(10, Status::Timeout)));
+    assert_eq!(rt; first, Settled::Spent(Request(10, Timeout)));
     assert_eq!(rt; (second, last), (ask_spent(20, 1), ask_spent(21, 2)));
     assert!(rt; third.is_ok_and(|told| told.tag == 11 && told.done.status == Status::Checksum));
     assert!(rt; none.is_err_and(|(_, done)| done.status == Status::TooShort));
-    assert_eq!(rt;
-        back,
-        Settled::Back(Heard::Discovery(2, 3, Ending::Faultless, Found::First))
-    );
+    assert_eq!(rt; back, Settled::Back(Discovery(2, 3, Faultless, First)));
     assert!(rt; held && is_handed_back && left == 0);
     Ok(())
 }

@@ -1,7 +1,6 @@
 //! The callbacks that are left in desks.
+use crate::tests::*;
 use rdm_client::{Desk, Unfinished};
-use std::test::Fail;
-use test_rig::{AskNote, Note, cancels};
 
 #[test]
 fn hands_back_requests_before_discoveries(rt: HostRuntime) -> Result<(), Fail> {

@@ -1,10 +1,10 @@
 //! What callbacks are called with.
+use crate::tests::*;
 use rdm_client::BoxedAsk;
-use rdm_join::Status;
 use rdm_log::{BoxedOutcome, Completion, DiscoveryEnd};
 use rdm_wire::DeviceSet;
-use std::alloc::{AllocError, Global};
-use test_rig::{Who, device_of};
+use std::alloc::AllocError;
+use test_rig::device_of;
 
 /// The completion of a request without data.
 pub fn ended(alloc: Global, status: Status) -> Completion {

@@ -2,16 +2,13 @@
 ghost use Rattle.std.specs.Prelude.{◌≡◌};
 ghost use Rattle.rdm_lanes.specs.Workers.{book_of};
 
+use crate::tests::*;
 use rdm_client::WorkerEnd;
 use rdm_lanes::views::{BlankHistory, Shown, ViewHistory};
 use rdm_lanes::{Lanes, RingClient, ViewWorker, open_lanes};
 use rdm_line::TapeLine;
 use rdm_log::{ClientId, Entry, LogFull, Page};
-use std::alloc::Global;
 use std::marker::Brand;
-use std::sync::Wait;
-use std::test::Fail;
-use test_rig::{AskNote, NOTHING_KEPT, Note, cancels, config, log, request};
 
 // The first turn's page. Two clients have submitted a request each, and the line fails.
 fn has_first_turn(page: &Page) -> bool {

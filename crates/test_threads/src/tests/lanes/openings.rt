@@ -1,7 +1,7 @@
 //! Why lanes can't be opened.
+use crate::tests::*;
 use rdm_lanes::OpenFault;
-use std::test::Fail;
-use test_stage::{Setup, open_fault};
+use test_stage::open_fault;
 
 // Free entries, the capacity for all clients, the queue depth of each, and why such lanes can't be opened.
 type Row = (usize, u8, &'static [u8], Option<OpenFault>);
@@ -19,13 +19,7 @@ static ROWS: [Row; 7] = [
 #[test]
 fn faults_of_an_opening_come_in_their_order(rt: HostRuntime) -> Result<(), Fail> {
     for (number, (free, greatest, places, wanted)) in ROWS.iter().enumerate() {
-        let setup = Setup {
-            free: *free,
-            greatest: *greatest,
-            ring: 2,
-            places,
-            search: None,
-        };
+        let setup = Setup::new(*free, 2, places).of_capacity(*greatest);
         let fault = open_fault(&rt, rt.alloc(), setup)?;
         assert_eq!(rt; fault, *wanted, "row {number}");
     }

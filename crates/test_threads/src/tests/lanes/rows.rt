@@ -1,9 +1,6 @@
 //! Rows of moves on lanes whose line fails at once.
-use std::alloc::Global;
+use crate::tests::*;
 use std::process::Abort;
-use std::sync::Wait;
-use test_rig::{Move, Said, says};
-use test_stage::{Failed, Setup, play_taped};
 
 /// Lanes, moves on them, and the result.
 pub struct Row {
@@ -51,7 +48,8 @@ pub fn play_all<R: Wait + Abort>(rt: &R, alloc: Global, rows: &[Row]) {
 
 fn plays<R: Wait>(rt: &R, alloc: Global, row: &Row) -> Result<(), Failed> {
     let setup = Setup::new(row.free, row.ring, row.places);
-    let over = play_taped(rt, alloc, setup, &[], row.moves, row.counts)?;
+    let over = play_lanes(rt, alloc, setup, silent(alloc, 0)?, row.moves)?;
+    counts_are(&over.left, row.counts)?;
     if over.state.is_paused != row.is_paused || over.state.is_closed != row.is_closed {
         return Err(Failed::Unmatched);
     }

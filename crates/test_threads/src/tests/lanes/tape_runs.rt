@@ -1,14 +1,15 @@
 //! Discoveries with ring buffers over a line with stored replies.
-use rdm_agent::Kind;
+use crate::tests::*;
 use rdm_join::LineReply;
 use rdm_line::{Asks, Counted, Line};
 use rdm_wire::Frame;
 use std::sync::atomic::{AtomicUsize, Ordering};
-use std::test::Fail;
-use test_rig::{
-    Act, Came, Ending, Found, Heard, Move, Said, Step, Stop, Who, says_at, says_run, tape_of,
-};
-use test_stage::{Play, Setup, counts_are, play_lanes, play_threads, read_alone};
+use test_stage::read_alone;
+
+// Answers of a line.
+macro_rules! answers {
+    ($($came:ident $(($who:ident))?),* $(,)?) => { [$(Came::$came $((Who::$who))?),*] };
+}
 
 // A full run finds `1234:00000001` and `5678:00000009`: three unmutes, a branch reply and an acknowledgement from each
 // device, and five silences.
@@ -16,38 +17,13 @@ use test_stage::{Play, Setup, counts_are, play_lanes, play_threads, read_alone};
 // Then the second one has gone, and `9abc:00000002` has come. An incremental run makes three unmutes, and two mutes of
 // the first device, since the reply to the first mute is lost. It makes five mutes of the second device, a branch and a
 // mute of the new one, and five branches.
-static BOTH_RUNS: [Came; 29] = [
-    Came::Nothing,
-    Came::Nothing,
-    Came::Nothing,
-    Came::Spelt(Who::First),
-    Came::Muted(Who::First),
-    Came::Spelt(Who::Gone),
-    Came::Muted(Who::Gone),
-    Came::Nothing,
-    Came::Nothing,
-    Came::Nothing,
-    Came::Nothing,
-    Came::Nothing,
+static BOTH_RUNS: [Came; 29] = answers! {
+    Nothing, Nothing, Nothing, Spelt(First), Muted(First), Spelt(Gone), Muted(Gone),
+    Nothing, Nothing, Nothing, Nothing, Nothing,
     // The incremental run.
-    Came::Nothing,
-    Came::Nothing,
-    Came::Nothing,
-    Came::Nothing,
-    Came::Muted(Who::First),
-    Came::Nothing,
-    Came::Nothing,
-    Came::Nothing,
-    Came::Nothing,
-    Came::Nothing,
-    Came::Spelt(Who::Second),
-    Came::Muted(Who::Second),
-    Came::Nothing,
-    Came::Nothing,
-    Came::Nothing,
-    Came::Nothing,
-    Came::Nothing,
-];
+    Nothing, Nothing, Nothing, Nothing, Muted(First), Nothing, Nothing, Nothing, Nothing, Nothing,
+    Spelt(Second), Muted(Second), Nothing, Nothing, Nothing, Nothing, Nothing,
+};
 
 // What a frame asks: the last bytes of its PID and of its destination UID (E1.20, discovery).
 type Asked = (u8, u8);
@@ -62,39 +38,17 @@ const MUTE_GONE: Asked = (2, 9);
 
 const UNMUTE: Asked = (3, 0xff);
 
-// What the frames of both runs ask.
-static WANTED: [Asked; 29] = [
-    UNMUTE,
-    UNMUTE,
-    UNMUTE,
-    BRANCH,
-    MUTE_FIRST,
-    BRANCH,
-    MUTE_GONE,
-    BRANCH,
-    BRANCH,
-    BRANCH,
-    BRANCH,
-    BRANCH,
-    // The incremental run.
-    UNMUTE,
-    UNMUTE,
-    UNMUTE,
-    MUTE_FIRST,
-    MUTE_FIRST,
-    MUTE_GONE,
-    MUTE_GONE,
-    MUTE_GONE,
-    MUTE_GONE,
-    MUTE_GONE,
-    BRANCH,
-    MUTE_SECOND,
-    BRANCH,
-    BRANCH,
-    BRANCH,
-    BRANCH,
-    BRANCH,
-];
+// What the frame of both runs with this number asks.
+fn wanted(number: usize) -> Option<Asked> {
+    match number {
+        0..=2 | 12..=14 => Some(UNMUTE),
+        3 | 5 | 7..=11 | 22 | 24..=28 => Some(BRANCH),
+        4 | 15 | 16 => Some(MUTE_FIRST),
+        6 | 17..=21 => Some(MUTE_GONE),
+        23 => Some(MUTE_SECOND),
+        _ => None,
+    }
+}
 
 // A line, and how many of its frames asked what was expected.
 #[derive(Drop)]
@@ -106,7 +60,7 @@ struct Watched<'a, X: Drop> {
 
 impl<X: Line + Drop> Asks for Watched<'_, X> {
     fn ask(&mut self, frame: &Frame) -> Option<LineReply> {
-        if WANTED.get(self.made).copied() == Some(asked_by(frame)) {
+        if wanted(self.made) == Some(asked_by(frame)) {
             self.right.fetch_add(1, Ordering::SeqCst);
         }
         self.made = self.made.saturating_add(1);
@@ -121,46 +75,27 @@ fn asked_by(frame: &Frame) -> Asked {
     (pid.unwrap_or(0), uid.unwrap_or(0))
 }
 
-const NONE: Heard = Heard::Sees(0, Found::Nobody);
+const NONE: Heard = Sees(0, Nobody);
 
-const KNOWN: Heard = Heard::Sees(1, Found::FirstAndGone);
+const KNOWN: Heard = Sees(1, FirstAndGone);
 
-const PRESENT: Heard = Heard::Sees(2, Found::FirstAndSecond);
+const PRESENT: Heard = Sees(2, FirstAndSecond);
 
-const FULL: Heard = Heard::Discovery(5, 1, Ending::Faultless, Found::FirstAndGone);
+const FULL: Heard = Discovery(5, 1, Faultless, FirstAndGone);
 
-const INCREMENTAL: Heard = Heard::Discovery(6, 2, Ending::Faultless, Found::FirstAndSecond);
+const INCREMENTAL: Heard = Discovery(6, 2, Faultless, FirstAndSecond);
 
 // Makes both runs, each with its last frame in the last turn. After the first run, the view is read before the answer
 // is collected. After the second run, the client knows what it collected without reading.
-static MOVES: [Move; 13] = [
-    (Act::Client(0, Step::Discover(Kind::Full, 5)), Heard::Done),
-    (Act::Work(11), Heard::Worked(Stop::Turns)),
-    (Act::Client(0, Step::Collect), Heard::Nothing),
-    (Act::Client(0, Step::Look), NONE),
-    (Act::Work(1), Heard::Worked(Stop::Turns)),
-    (Act::Client(0, Step::Look), KNOWN),
-    (Act::Client(0, Step::Collect), FULL),
-    (
-        Act::Client(0, Step::Discover(Kind::Incremental, 6)),
-        Heard::Done,
-    ),
-    (Act::Work(17), Heard::Worked(Stop::Turns)),
-    (Act::Client(0, Step::Know), KNOWN),
-    (Act::Client(0, Step::Collect), INCREMENTAL),
-    (Act::Client(0, Step::Know), PRESENT),
-    (Act::Client(0, Step::Look), PRESENT),
-];
+static MOVES: &[Move] = moves! {
+    0 Full(5) => Done, Work(11) => Worked(Turns), 0 Collect => Nothing, 0 Look => NONE,
+    Work(1) => Worked(Turns), 0 Look => KNOWN, 0 Collect => FULL,
+    0 Incremental(6) => Done, Work(17) => Worked(Turns), 0 Know => KNOWN, 0 Collect => INCREMENTAL,
+    0 Know => PRESENT, 0 Look => PRESENT,
+};
 
 #[test]
 fn an_incremental_run_over_rings_has_the_frames_12_to_28(rt: HostRuntime) -> Result<(), Fail> {
-    static BEFORE: [Said; 2] = [Said::Join(0, 1), Said::Ask(0, 0, Kind::Full)];
-    static BETWEEN: [Said; 3] = [
-        Said::Answer(0, 1, Ending::Faultless),
-        Said::Collect(0),
-        Said::Ask(0, 1, Kind::Incremental),
-    ];
-    static AFTER: [Said; 2] = [Said::Answer(1, 2, Ending::Faultless), Said::Collect(0)];
     let setup = Setup::new(100, 4, &[1]);
     let right = AtomicUsize::new(0);
     let line = Counted::new(Watched {
@@ -168,14 +103,22 @@ fn an_incremental_run_over_rings_has_the_frames_12_to_28(rt: HostRuntime) -> Res
         made: 0,
         right: &right,
     });
-    let over = play_lanes(&rt, rt.alloc(), setup, line, &MOVES)?;
+    let over = play_lanes(&rt, rt.alloc(), setup, line, MOVES)?;
     counts_are(&over.left, &[(2, 2, 0)])?;
     assert_eq!(rt; (over.log.len(), right.load(Ordering::SeqCst)), (65, 29));
-    says_at(&over.log, 0, &BEFORE)?;
+    says_at(&over.log, 0, entries! { Join(0, 1), Ask(0, 0, Kind::Full) })?;
     says_run(&over.log, 2, 1, 0, 11)?;
-    says_at(&over.log, 26, &BETWEEN)?;
+    says_at(
+        &over.log,
+        26,
+        entries! { Answer(0, 1, Faultless), Collect(0), Ask(0, 1, Kind::Incremental) },
+    )?;
     says_run(&over.log, 29, 2, 12, 28)?;
-    says_at(&over.log, 63, &AFTER)?;
+    says_at(
+        &over.log,
+        63,
+        entries! { Answer(1, 2, Faultless), Collect(0) },
+    )?;
     Ok(())
 }
 
@@ -194,37 +137,17 @@ fn the_last_view_stands_without_a_worker(rt: HostRuntime) -> Result<(), Fail> {
 
 // A client that asks for a full discovery and then for an incremental one. It looks at the devices before and after
 // each.
-static SEARCHER: [Play; 8] = [
-    Play::Do(Step::Look),
-    Play::Do(Step::Discover(Kind::Full, 5)),
-    Play::Hear,
-    Play::Do(Step::Look),
-    Play::Do(Step::Discover(Kind::Incremental, 6)),
-    Play::Hear,
-    Play::Do(Step::Look),
-    Play::Do(Step::Leave),
-];
-
-static SEARCHED: [Heard; 8] = [
-    NONE,
-    Heard::Done,
-    FULL,
-    KNOWN,
-    Heard::Done,
-    INCREMENTAL,
-    PRESENT,
-    Heard::Done,
-];
+static SEARCHER: Part<'static> = part! {
+    Look => NONE, Full(5) => Done, Hear => FULL, Look => KNOWN,
+    Incremental(6) => Done, Hear => INCREMENTAL, Look => PRESENT, Leave => Done,
+};
 
 #[test]
 fn a_client_in_a_thread_sees_what_each_run_found(rt: HostRuntime) -> Result<(), Fail> {
-    let setup = Setup {
-        greatest: 1,
-        ..Setup::new(100, 1, &[1])
-    };
+    let setup = Setup::new(100, 1, &[1]).of_capacity(1);
     for _session in 0..100 {
         let line = tape_of(rt.alloc(), &BOTH_RUNS)?;
-        let over = play_threads(&rt, rt.alloc(), setup, &[&SEARCHER], line, &[&SEARCHED])?;
+        let over = play_threads(&rt, rt.alloc(), setup, &[SEARCHER], line)?;
         counts_are(&over.left, &[(2, 2, 0)])?;
         assert_eq!(rt; (over.published, over.state.devices.0), (3, 2));
         assert_eq!(rt; over.state.counts.frames, (29, 0));

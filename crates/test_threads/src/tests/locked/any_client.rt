@@ -1,12 +1,6 @@
 //! Calls on a port by the trait for clients of either port.
-use rdm_agent::Kind;
+use crate::tests::*;
 use rdm_client::{CallFault, Client};
-use rdm_locked::{Exchange, Ledger, Port};
-use std::alloc::Global;
-use std::sync::Wait;
-use std::test::Fail;
-use test_rig::{AskNote, Note, request};
-use test_stage::{PortClient, PortJob, PortSetup, on_port};
 
 // The number of a call, or why it was refused.
 type Made = Result<Option<u64>, CallFault>;

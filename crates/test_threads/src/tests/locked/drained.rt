@@ -1,20 +1,14 @@
 //! Ports whose logs are drained in mid-exchange, or keep nothing, in threads, and how they end.
 ghost use Rattle.std.specs.Prelude.{◌≡◌, []};
 
-use rdm_client::WorkerEnd;
-use rdm_join::{LineFault, LineReply, Status};
+use crate::tests::*;
+use rdm_join::{LineFault, LineReply};
 use rdm_line::Line;
-use rdm_locked::{Blank, CallShare, Exchange, FinishFault, Ledger, Left, Port, SessionEnd};
+use rdm_locked::{Blank, CallShare, FinishFault, SessionEnd};
 use rdm_log::{Entry, Log, Page};
 use rdm_wire::Frame;
-use std::alloc::Global;
 use std::marker::Brand;
-use std::sync::Wait;
-use std::test::Fail;
-use std::thread;
-use std::thread::{Threads, join_mut};
-use test_rig::{Heard, NOTHING_KEPT, Note, cancels, config, log, request, silent, told};
-use test_stage::{PortClient, TRIES};
+use test_stage::{Gone, serve_clients};
 
 // A line that drains the port during each exchange, if it has to, and keeps the pages.
 #[derive(Drop)]
@@ -23,7 +17,7 @@ struct DrainingLine<'a, L: Ledger, R, X: Drop> {
     alloc: Global,
     port: &'a Port<L>,
     drains: bool,
-    pages: Vec<Page>,
+    pages: &'a mut Vec<Page>,
     line: X,
 }
 
@@ -34,7 +28,7 @@ impl<L: Ledger, R: Wait, X: Line + Drop> Line for DrainingLine<'_, L, R, X> {
 
     fn exchange(&mut self, frame: &Frame) -> Result<LineReply, LineFault> {
         if self.drains {
-            drain(self.rt, self.alloc, self.port, &mut self.pages);
+            drain(self.rt, self.alloc, self.port, self.pages);
         }
         self.line.exchange(frame)
     }
@@ -57,49 +51,10 @@ fn drain<L: Ledger, R: Wait>(rt: &R, alloc: Global, port: &Port<L>, pages: &mut 
     }
 }
 
-// A client until it has left, then its share; and how many of its outcomes were right.
-struct Seat<'a, L: Ledger> {
-    client: Option<PortClient<'a, L>>,
-    calls: Option<CallShare<L>>,
-    right: u64,
-}
-
-// Takes the client out of the seat, and lets it ask and leave.
-fn sits<L: Ledger, R: Wait>(rt: &R, alloc: Global, seat: &mut Seat<'_, L>) {
-    let Some(mut client) = seat.client.take() else {
-        return;
-    };
-    seat.right = asks(rt, &mut client);
-    let Left { unspent, calls } = client.leave(rt);
-    cancels(alloc, unspent);
-    seat.calls = Some(calls);
-}
-
-// Submits two requests, the second one after the outcome of the first. Returns how many timed out with their callbacks.
-fn asks<L: Ledger, R: Wait>(rt: &R, client: &mut PortClient<'_, L>) -> u64 {
-    let mut right = 0u64;
-    let mut is_asked = false;
-    for _try in 0..TRIES {
-        if right == 2 {
-            break;
-        }
-        if !is_asked {
-            is_asked = client.submit(rt, request(right), Note(right)).is_ok();
-        }
-        if told(&client.collect(rt)) == Heard::Request(right, Status::Timeout) {
-            right = right.saturating_add(1);
-            is_asked = false;
-        } else {
-            thread::yield_now();
-        }
-    }
-    right
-}
-
 // What was heard of a port and its client.
 #[derive(Drop)]
 struct Played {
-    worker: WorkerEnd,
+    stop: Stop,
     right: u64,
     pages: Vec<Page>,
     exchanges: usize,
@@ -157,11 +112,20 @@ fn plays<L: Ledger + Send + Sync, R: Threads + Wait + Sync>(
     let Ok(port) = Port::<L>::new(alloc, blank, config(1), log) else {
         return Err("no memory")?;
     };
-    let mut record = Vec::new(alloc);
-    let (worker, right, pages, shares) = together(rt, alloc, &port, drains, &mut record)?;
+    let mut pages = Vec::new(alloc);
+    let line = DrainingLine {
+        rt,
+        alloc,
+        port: &port,
+        drains,
+        pages: &mut pages,
+        line: one_device(alloc, &[])?,
+    };
+    let (stop, right, gone) = serve_clients(rt, alloc, &port, &[1], 2, None, line);
+    let Gone { record, shares, .. } = gone;
     let (refused, too_early, end) = ends(alloc, port, shares, &record);
     Ok(Played {
-        worker,
+        stop,
         right,
         pages,
         exchanges: record.len(),
@@ -169,62 +133,6 @@ fn plays<L: Ledger + Send + Sync, R: Threads + Wait + Sync>(
         refused,
         end,
     })
-}
-
-// How the worker ended, how many of its client's outcomes were right, the pages, and the client's share.
-type Together<L> = (WorkerEnd, u64, Vec<Page>, Vec<CallShare<L>>);
-
-// The worker beside a client.
-fn together<L: Ledger + Send + Sync, R: Threads + Wait + Sync>(
-    rt: &R,
-    alloc: Global,
-    port: &Port<L>,
-    drains: bool,
-    record: &mut Vec<Exchange>,
-) -> Result<Together<L>, Fail> {
-    let mut line = DrainingLine {
-        rt,
-        alloc,
-        port,
-        drains,
-        pages: Vec::new(alloc),
-        line: silent(alloc, 2)?,
-    };
-    let mut seat = Seat {
-        client: port.client(rt, alloc, 1).ok(),
-        calls: None,
-        right: 0,
-    };
-    let (worker, _) = join_mut(
-        rt,
-        &mut || port.work(rt, alloc, &mut line, TRIES, record),
-        &mut || sits(rt, alloc, &mut seat),
-    );
-    let (right, shares) = stood_up(rt, alloc, seat);
-    Ok((worker, right, line.pages, shares))
-}
-
-// How many outcomes were right, and the client's share. If its thread never ran, it leaves now.
-fn stood_up<L: Ledger, R: Wait>(
-    rt: &R,
-    alloc: Global,
-    seat: Seat<'_, L>,
-) -> (u64, Vec<CallShare<L>>) {
-    let Seat {
-        client,
-        calls,
-        right,
-    } = seat;
-    let mut shares = Vec::new(alloc);
-    if let Some(client) = client {
-        let Left { unspent, calls } = client.leave(rt);
-        cancels(alloc, unspent);
-        let _ = shares.push(calls);
-    }
-    if let Some(calls) = calls {
-        let _ = shares.push(calls);
-    }
-    (right, shares)
 }
 
 fn play<R: Threads + Wait + Sync>(
@@ -239,7 +147,7 @@ fn play<R: Threads + Wait + Sync>(
 // What is the same of each port: a client's two calls for each request, and an exchange of each. It isn't finished, and
 // not ended without a share.
 fn is_served(played: &Played) -> bool {
-    played.worker == WorkerEnd::AllLeft
+    played.stop == AllLeft
         && (played.right, played.exchanges) == (2, 2)
         && played.refused == Some(FinishFault::NotKept)
         && !played.too_early

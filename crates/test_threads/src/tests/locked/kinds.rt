@@ -1,14 +1,7 @@
 //! A client that collects each kind of outcome with its own call, or keeps what it collects.
-use rdm_agent::Kind;
-use rdm_join::Status;
+use crate::tests::*;
 use rdm_line::SimLine;
-use rdm_locked::{Exchange, Ledger, Port};
 use rdm_log::OutcomeKind;
-use std::alloc::Global;
-use std::sync::Wait;
-use std::test::Fail;
-use test_rig::{AskNote, Note, one_device, request};
-use test_stage::{PortClient, PortJob, PortSetup, on_port};
 
 // The kind of the oldest outcome; the tag and status of a collected request; the tag and run of a collected discovery.
 type Looks = (
@@ -72,11 +65,7 @@ fn each_kind_is_collected_only_where_it_is_the_oldest(rt: HostRuntime) -> Result
     };
     let over = on_port(&rt, rt.alloc(), PortSetup::new(1, 100), &mut collects)?;
     let discovery = (Some(OutcomeKind::Discovery), None, Some((8, 1)));
-    let request = (
-        Some(OutcomeKind::Request),
-        Some((9, Status::Completed)),
-        None,
-    );
+    let request = (Some(OutcomeKind::Request), Some((9, Completed)), None);
     let nothing = (None, None, None);
     assert_eq!(rt; collects.looks, [nothing, discovery, request, nothing]);
     assert_eq!(rt; (over.calls, over.held, over.recorded), (4, 0, 11));

@@ -1,14 +1,8 @@
 //! Sessions in one thread over lines.
-use rdm_agent::{DEFAULT_BUDGET, Kind};
-use rdm_join::Status;
+use crate::tests::*;
+use rdm_agent::DEFAULT_BUDGET;
 use rdm_wire::AckType;
-use std::alloc::Global;
-use std::test::Fail;
-use test_rig::{
-    Act, Came, Ending, Found, Heard, Stage, Step, Stop, moved, one_device, open_session, tape_of,
-};
-
-const JOINS: (Act, Heard) = (Act::Join(1), Heard::Number(0));
+use test_rig::{Stage, moved, open_session};
 
 const COLLECT: Act = Act::Client(0, Step::Collect);
 
@@ -17,26 +11,23 @@ fn with_empty_parts(alloc: Global, last: AckType) -> Result<(Heard, usize), Fail
     let mut came = [Came::Empty(AckType::Overflow); 512];
     came[511] = Came::Empty(last);
     let mut stage = open_session(alloc, 1, DEFAULT_BUDGET, 2000, tape_of(alloc, &came)?)?;
-    let moves = [
-        JOINS,
-        (Act::Client(0, Step::Submit(0)), Heard::Number(0)),
-        (Act::Work(600), Heard::Worked(Stop::AllLeft)),
-    ];
-    moved(alloc, &mut stage, &moves)?;
+    let moves =
+        moves! { Join(1) => Number(0), 0 Submit(0) => Number(0), Work(600) => Worked(AllLeft) };
+    moved(alloc, &mut stage, moves)?;
     Ok((stage.act(alloc, COLLECT), stage.state().counts.frames.0))
 }
 
 #[test]
 fn takes_511_empty_parts_and_an_end(rt: HostRuntime) -> Result<(), Fail> {
     let ended = with_empty_parts(rt.alloc(), AckType::Ack)?;
-    assert_eq!(rt; ended, (Heard::Data(0, 0), 512));
+    assert_eq!(rt; ended, (Data(0, 0), 512));
     Ok(())
 }
 
 #[test]
 fn refuses_a_512th_part(rt: HostRuntime) -> Result<(), Fail> {
     let ended = with_empty_parts(rt.alloc(), AckType::Overflow)?;
-    assert_eq!(rt; ended, (Heard::Request(0, Status::InvalidResponse), 512));
+    assert_eq!(rt; ended, (Request(0, Status::InvalidResponse), 512));
     Ok(())
 }
 
@@ -56,22 +47,18 @@ struct Failure {
 fn failure_at(exchange: u8) -> Failure {
     if exchange == 10 {
         return Failure {
-            ending: Ending::Faultless,
-            found: Found::First,
-            known: (1, Found::First),
-            request: Heard::Request(0, Status::FailedToSend),
+            ending: Faultless,
+            found: First,
+            known: (1, First),
+            request: Request(0, FailedToSend),
             last: 10,
         };
     }
     Failure {
-        ending: Ending::LineFailed,
-        found: if exchange < 5 {
-            Found::Nobody
-        } else {
-            Found::First
-        },
-        known: (0, Found::Nobody),
-        request: Heard::Answered(0, 1, 2),
+        ending: LineFailed,
+        found: if exchange < 5 { Nobody } else { First },
+        known: (0, Nobody),
+        request: Answered(0, 1, 2),
         last: exchange.wrapping_add(1),
     }
 }
@@ -80,30 +67,14 @@ fn fails_at(alloc: Global, exchange: u8) -> Result<u8, Fail> {
     let wanted = failure_at(exchange);
     let line = one_device(alloc, &[u64::from(exchange)])?;
     let mut stage = open_session(alloc, 1, DEFAULT_BUDGET, 100, line)?;
-    let moves = [
-        JOINS,
-        (Act::Pause, Heard::Done),
-        (Act::Client(0, Step::Submit(0)), Heard::Number(0)),
-        (
-            Act::Client(0, Step::Discover(Kind::Full, 0)),
-            Heard::Number(0),
-        ),
-        (
-            Act::Client(0, Step::Discover(Kind::Incremental, 1)),
-            Heard::Number(1),
-        ),
-        (Act::Take, Heard::Nothing),
-        (Act::Resume, Heard::Done),
-        (Act::Work(20), Heard::Worked(Stop::AllLeft)),
-        (COLLECT, Heard::Discovery(0, 1, wanted.ending, wanted.found)),
-        (COLLECT, Heard::Discovery(1, 1, wanted.ending, wanted.found)),
-        (
-            Act::Client(0, Step::Know),
-            Heard::Sees(wanted.known.0, wanted.known.1),
-        ),
-        (COLLECT, wanted.request),
-    ];
-    moved(alloc, &mut stage, &moves)?;
+    let moves = moves! {
+        Join(1) => Number(0), Pause => Done, 0 Submit(0) => Number(0), 0 Full(0) => Number(0),
+        0 Incremental(1) => Number(1), Take => Nothing, Resume => Done, Work(20) => Worked(AllLeft),
+        0 Collect => Discovery(0, 1, wanted.ending, wanted.found),
+        0 Collect => Discovery(1, 1, wanted.ending, wanted.found),
+        0 Know => Sees(wanted.known.0, wanted.known.1), 0 Collect => wanted.request,
+    };
+    moved(alloc, &mut stage, moves)?;
     Ok(stage.state().counts.last_frame.number)
 }
 

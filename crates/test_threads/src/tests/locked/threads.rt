@@ -1,17 +1,13 @@
 //! Clients and a worker in threads of their own.
-use rdm_locked::{Exchange, Ledger, Port};
-use std::alloc::Global;
-use std::sync::Wait;
-use std::test::Fail;
-use test_rig::{Heard, Note, Stop, one_device, request, told};
-use test_stage::{PortClient, PortJob, PortSetup, on_port, serve_port};
+use crate::tests::*;
+use test_stage::serve_port;
 
 #[test]
 fn each_client_gets_its_own_results_in_order(rt: HostRuntime) -> Result<(), Fail> {
     let line = one_device(rt.alloc(), &[])?;
     let setup = PortSetup::new(4, 1000);
     let (stop, right, over) = serve_port(&rt, rt.alloc(), setup, &[3, 1], 20, None, line)?;
-    assert_eq!(rt; (right, stop, over.recorded), (40, Stop::AllLeft, 40));
+    assert_eq!(rt; (right, stop, over.recorded), (40, AllLeft, 40));
     assert_eq!(rt; over.held, 0);
     Ok(())
 }
@@ -22,7 +18,7 @@ fn a_sleeping_worker_makes_no_turn_but_its_exchanges(rt: HostRuntime) -> Result<
     let setup = PortSetup::new(2, 40_000);
     let turns = Some(4000);
     let (stop, right, over) = serve_port(&rt, rt.alloc(), setup, &[1, 1], 2000, turns, line)?;
-    assert_eq!(rt; (right, stop, over.recorded), (4000, Stop::Turns, 4000));
+    assert_eq!(rt; (right, stop, over.recorded), (4000, Turns, 4000));
     Ok(())
 }
 
@@ -32,7 +28,7 @@ fn the_last_client_that_leaves_wakes_the_worker(rt: HostRuntime) -> Result<(), F
     let setup = PortSetup::new(2, 1000);
     let turns = Some(1000);
     let (stop, right, over) = serve_port(&rt, rt.alloc(), setup, &[1, 1], 10, turns, line)?;
-    assert_eq!(rt; (right, stop, over.recorded), (20, Stop::AllLeft, 20));
+    assert_eq!(rt; (right, stop, over.recorded), (20, AllLeft, 20));
     Ok(())
 }
 
@@ -62,6 +58,6 @@ impl PortJob for Waits {
 fn a_client_does_not_sleep_without_a_worker(rt: HostRuntime) -> Result<(), Fail> {
     let mut waits = Waits { heard: None };
     on_port(&rt, rt.alloc(), PortSetup::new(1, 100), &mut waits)?;
-    assert!(rt; waits.heard == Some(Heard::Nothing));
+    assert!(rt; waits.heard == Some(Nothing));
     Ok(())
 }

@@ -1,21 +1,13 @@
 //! A worker makes all its turns, even if there are many.
+use crate::tests::*;
 use rdm_wire::AckType;
-use std::test::Fail;
-use test_rig::{Act, Came, Heard, Move, Step, Stop, tape_of};
-use test_stage::{PortSetup, play_port};
 
 // Three answers of 512 parts each, which the last turn completes.
-static MOVES: [Move; 9] = [
-    (Act::Join(3), Heard::Number(0)),
-    (Act::Client(0, Step::Submit(0)), Heard::Number(0)),
-    (Act::Client(0, Step::Submit(0)), Heard::Number(1)),
-    (Act::Client(0, Step::Submit(0)), Heard::Number(2)),
-    (Act::Work(1536), Heard::Worked(Stop::Turns)),
-    (Act::Client(0, Step::Collect), Heard::Data(0, 0)),
-    (Act::Client(0, Step::Collect), Heard::Data(0, 0)),
-    (Act::Client(0, Step::Collect), Heard::Data(0, 0)),
-    (Act::Client(0, Step::Collect), Heard::Nothing),
-];
+static MOVES: &[Move] = moves! {
+    Join(3) => Number(0), 0 Submit(0) => Number(0), 0 Submit(0) => Number(1), 0 Submit(0) => Number(2),
+    Work(1536) => Worked(Turns), 0 Collect => Data(0, 0), 0 Collect => Data(0, 0), 0 Collect => Data(0, 0),
+    0 Collect => Nothing,
+};
 
 #[test]
 fn a_worker_makes_1536_exchanges_in_as_many_turns(rt: HostRuntime) -> Result<(), Fail> {
@@ -24,7 +16,7 @@ fn a_worker_makes_1536_exchanges_in_as_many_turns(rt: HostRuntime) -> Result<(),
     came[1023] = Came::Empty(AckType::Ack);
     came[1535] = Came::Empty(AckType::Ack);
     let line = tape_of(rt.alloc(), &came)?;
-    let over = play_port(&rt, rt.alloc(), PortSetup::new(3, 5000), line, &MOVES)?;
+    let over = play_port(&rt, rt.alloc(), PortSetup::new(3, 5000), line, MOVES)?;
     assert_eq!(rt; (over.recorded, over.calls), (1536, 6));
     Ok(())
 }

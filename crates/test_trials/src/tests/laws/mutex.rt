@@ -6,16 +6,13 @@ ghost use Rattle.rdm_locked.specs.Exchanges.{recorded};
 ghost use Rattle.rdm_scenes.specs.Reports.{IsLogOver};
 
 use super::report::{Report, TAGS, get, reply_in, set};
-use rdm_agent::Kind;
+use crate::tests::*;
 use rdm_client::DeviceView;
 use rdm_line::SimLine;
 use rdm_locked::{Blank, CallShare, Exchange, Ledger, Left, LockedClient, Port, SessionEnd};
 use rdm_queue::Session;
 use rdm_scenes::laws;
-use std::alloc::Global;
 use std::marker::Brand;
-use std::sync::Wait;
-use test_rig::{AskNote, Heard, Note, cancels, config, found_in, log, told};
 
 type Client<'a, L> = LockedClient<'a, L, Note, AskNote>;
 
@@ -108,5 +105,5 @@ fn ends<L: Ledger, R: Wait>(rt: &R, client: &mut Client<'_, L>, report: &mut Rep
 
 #[inline(never)]
 fn sees(view: &DeviceView) -> Heard {
-    Heard::Sees(view.run, found_in(&view.set))
+    Sees(view.run, found_in(&view.set))
 }

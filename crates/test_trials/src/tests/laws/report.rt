@@ -2,10 +2,10 @@
 //!
 //! It looks at the devices. It asks for a full discovery, and submits a GET and a SET of parameters that the device
 //! doesn't have. Once these have ended it looks again, and asks for an incremental discovery. Then it looks once more.
+use crate::tests::*;
 use rdm_client::Collected;
 use rdm_join::ReplyHead;
 use rdm_wire::{AckType, ReqClass, Request, RespClass};
-use test_rig::{Ending, Found, Heard, request};
 
 /// How many exchanges are made before the incremental discovery, if the first device and the one that leaves are both
 /// found.
@@ -29,8 +29,8 @@ impl Report {
     /// The report of a client that got nothing.
     pub fn new() -> Report {
         Report {
-            seen: [Heard::Nothing; 3],
-            found: [Heard::Nothing; 2],
+            seen: [Nothing; 3],
+            found: [Nothing; 2],
             replies: [None; 2],
         }
     }
@@ -39,14 +39,10 @@ impl Report {
 /// What the client gets if its discoveries find these devices.
 pub fn report_of(first: Found, second: Found) -> Report {
     Report {
-        seen: [
-            Heard::Sees(0, Found::Nobody),
-            Heard::Sees(1, first),
-            Heard::Sees(2, second),
-        ],
+        seen: [Sees(0, Nobody), Sees(1, first), Sees(2, second)],
         found: [
-            Heard::Discovery(TAGS[0], 1, Ending::Faultless, first),
-            Heard::Discovery(TAGS[3], 2, Ending::Faultless, second),
+            Discovery(TAGS[0], 1, Faultless, first),
+            Discovery(TAGS[3], 2, Faultless, second),
         ],
         replies: [
             Some((TAGS[1], refusal(RespClass::Get, 0x0201, 0x0102))),

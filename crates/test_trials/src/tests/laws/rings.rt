@@ -6,19 +6,15 @@ ghost use Rattle.rdm_line.specs.Sim.{SimState};
 ghost use Rattle.rdm_scenes.specs.Reports.{IsLogOver};
 
 use super::report::{Report, TAGS, get, reply_in, set};
-use rdm_agent::Kind;
+use crate::tests::*;
 use rdm_client::Collected;
 use rdm_lanes::views::{BlankHistory, ViewHistory};
 use rdm_lanes::{Body, ClientEnd, Gate, LanesEnd, RingClient, WORKER_STOPPED, run_session};
 use rdm_line::SimLine;
 use rdm_queue::Session;
-use std::alloc::Global;
 use std::marker::Brand;
-use std::sync::Wait;
 use std::sync::atomic::{AtomicBool, Ordering};
 use std::thread;
-use std::thread::Threads;
-use test_rig::{AskNote, Heard, Note, cancels, config, found_in, log, told};
 
 type Client<J> = RingClient<J, Note, AskNote>;
 
@@ -56,7 +52,7 @@ fn serves_in<J: ViewHistory + Send + Sync, R: Threads + Wait + Sync>(
     if askers.push(Asker::new()).is_err() {
         return None;
     }
-    let gate = Stop(AtomicBool::new(false));
+    let gate = HasStopped(AtomicBool::new(false));
     let ended = run_session::<J, _, _, _, _, SimLine, R>(
         rt,
         alloc,
@@ -104,9 +100,9 @@ fn cancel_ends<J: ViewHistory>(alloc: Global, ends: Vec<ClientEnd<J, Note, AskNo
 
 // Whether the worker has stopped.
 #[derive(Drop)]
-struct Stop(AtomicBool);
+struct HasStopped(AtomicBool);
 
-impl Gate for Stop {
+impl Gate for HasStopped {
     fn arrive(&self, point: u8) {
         if point == WORKER_STOPPED {
             self.0.store(true, Ordering::SeqCst);
@@ -157,7 +153,7 @@ fn sees<J: ViewHistory>(client: &mut Client<J>) -> Heard
     ensures { SameClient client.old client.new }
 {
     let view = client.devices();
-    Heard::Sees(view.run, found_in(&view.set))
+    Sees(view.run, found_in(&view.set))
 }
 
 // Collects once something has come.

@@ -4,10 +4,9 @@ ghost use Rattle.std.specs.List.{AllByRecursion};
 ghost use Rattle.rdm_line.specs.Scenes.{Stays};
 ghost use Rattle.rdm_line.specs.SimSteps.{NoFiveSuccessive};
 
+use crate::tests::*;
 use rdm_line::{Collision, Parameters, Scene, SceneDevice, SceneDevices};
 use rdm_wire::Uid;
-use std::alloc::Global;
-use test_rig::{Who, device_of};
 
 /// Two devices that stay, on a line that loses two replies: one to a branch, and one to a mute.
 pub fn staying_scene(alloc: Global) -> Option<Scene>

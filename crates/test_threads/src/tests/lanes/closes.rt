@@ -1,16 +1,8 @@
 //! A close beside a client with ring buffers, in threads of their own, a hundred times each.
-use rdm_agent::Kind;
-use rdm_join::Status;
-use std::alloc::Global;
-use std::sync::Wait;
-use std::test::Fail;
-use std::thread::Threads;
-use test_rig::{Ending, Found, Heard, Said, Step, Stop, one_device, says};
-use test_stage::{LanesOver, Play, Player, Setup, counts_are, player_heard, serve_beside};
+use crate::tests::*;
+use test_stage::{LanesOver, serve_beside};
 
 const TIMES: u64 = 100;
-
-const FAILED: Status = Status::FailedToSend;
 
 // At this point the operator is asked to close.
 const CLOSE: u8 = 0;
@@ -32,7 +24,7 @@ fn plays<R: Threads + Wait + Sync>(
     let line = one_device(alloc, &[])?;
     let (stop, over) = serve_beside(rt, alloc, Setup::new(1000, 2, &[2]), line, player)?;
     counts_are(&over.left, &[(calls, calls, 0)])?;
-    let is_over = over.state.is_closed && over.state.is_idle && stop == Stop::AllLeft;
+    let is_over = over.state.is_closed && over.state.is_idle && stop == AllLeft;
     if is_over {
         Ok(over)
     } else {
@@ -41,104 +33,56 @@ fn plays<R: Threads + Wait + Sync>(
 }
 
 // A client that submits before a close, and again once it has that outcome. The worker begins once the close is sent.
-static CALLER: [Play; 8] = [
-    Play::Do(Step::Submit(1)),
-    Play::Arrive(CLOSE),
-    Play::Wait(CLOSED),
-    Play::Arrive(BEGIN),
-    Play::Hear,
-    Play::Do(Step::Submit(2)),
-    Play::Hear,
-    Play::Do(Step::Leave),
-];
-
-static CALLER_HEARD: [Heard; 6] = [
-    Heard::Done,
-    Heard::Done,
-    Heard::Request(1, FAILED),
-    Heard::Done,
-    Heard::Request(2, FAILED),
-    Heard::Done,
-];
+static CALLER: Part<'static> = part! {
+    Submit(1) => Done, Arrive(CLOSE), Wait(CLOSED) => Done, Arrive(BEGIN), Hear => Request(1, FailedToSend),
+    Submit(2) => Done, Hear => Request(2, FailedToSend), Leave => Done,
+};
 
 // The worker takes the submit and then the close; the second submit comes later.
-static CALLER_LOG: [Said; 6] = [
-    Said::Join(0, 2),
-    Said::Accept(0, 0),
-    Said::Close,
-    Said::Finish(0, FAILED, 0),
-    Said::Collect(0),
-    Said::Refuse(Some(0), 1),
-];
+static CALLER_LOG: &[Said] = entries! {
+    Join(0, 2), Accept(0, 0), Close, Finish(0, FailedToSend, 0), Collect(0), Refuse(Some(0), 1),
+};
 
 #[test]
 fn a_client_submits_before_a_close_and_after_it(rt: HostRuntime) -> Result<(), Fail> {
     for _session in 0..TIMES {
-        let mut player = Player::new(&CALLER);
+        let mut player = Player::new(CALLER.0);
         let over = plays(&rt, rt.alloc(), &mut player, 2)?;
-        player_heard(&player, 0, &CALLER_HEARD)?;
-        says(&over.log, &CALLER_LOG)?;
+        player_heard(&player, 0, CALLER.1)?;
+        says(&over.log, CALLER_LOG)?;
     }
     Ok(())
 }
 
 // A client that makes a request and asks for a discovery, and collects both outcomes, in each of four rounds. It asks
 // for the close after two of them, and the close is sent before the last one.
-static ASKER: [Play; 20] = [
-    Play::Arrive(BEGIN),
-    Play::Do(Step::Submit(0)),
-    Play::Do(Step::Discover(Kind::Full, 0)),
-    Play::Hear,
-    Play::Hear,
-    Play::Do(Step::Submit(1)),
-    Play::Do(Step::Discover(Kind::Full, 1)),
-    Play::Hear,
-    Play::Hear,
-    Play::Arrive(CLOSE),
-    Play::Do(Step::Submit(2)),
-    Play::Do(Step::Discover(Kind::Full, 2)),
-    Play::Hear,
-    Play::Hear,
-    Play::Wait(CLOSED),
-    Play::Do(Step::Submit(3)),
-    Play::Do(Step::Discover(Kind::Full, 3)),
-    Play::Hear,
-    Play::Hear,
-    Play::Do(Step::Leave),
-];
+static ASKER: Part<'static> = part! {
+    Arrive(BEGIN), Submit(0) => Done, Full(0) => Done,
+    Hear => Answered(0, 1, 2), Hear => Discovery(0, 1, Faultless, First),
+    Submit(1) => Done, Full(1) => Done, Hear => Answered(1, 1, 2), Hear => Discovery(1, 2, Faultless, First),
+    Arrive(CLOSE), Submit(2) => Done, Full(2) => Done, Hear, Hear,
+    Wait(CLOSED) => Done, Submit(3) => Done, Full(3) => Done,
+    Hear => Request(3, FailedToSend), Hear => Discovery(3, 0, Aborted, Nobody), Leave => Done,
+};
 
 // What the client gets, if these are the outcomes of the third round.
 fn asker_heard(request: Heard, discovery: Heard) -> [Heard; 18] {
-    [
-        Heard::Done,
-        Heard::Done,
-        Heard::Answered(0, 1, 2),
-        Heard::Discovery(0, 1, Ending::Faultless, Found::First),
-        Heard::Done,
-        Heard::Done,
-        Heard::Answered(1, 1, 2),
-        Heard::Discovery(1, 2, Ending::Faultless, Found::First),
-        Heard::Done,
-        Heard::Done,
-        request,
-        discovery,
-        Heard::Done,
-        Heard::Done,
-        Heard::Done,
-        Heard::Request(3, FAILED),
-        Heard::Discovery(3, 0, Ending::Aborted, Found::Nobody),
-        Heard::Done,
-    ]
+    let mut heard = [Nothing; 18];
+    let (before, after) = ASKER.1.split_at(10);
+    heard[..10].copy_from_slice(before);
+    (heard[10], heard[11]) = (request, discovery);
+    heard[12..].copy_from_slice(after);
+    heard
 }
 
 // Whether each call of the third round got one outcome, in order. If the close ended the request, it ended the
 // discovery too.
 fn is_cut(request: Heard, discovery: Heard) -> bool {
     match (request, discovery) {
-        (Heard::Answered(2, 1, 2), Heard::Discovery(2, _, ending, _)) => {
-            ending == Ending::Faultless || ending == Ending::Aborted
+        (Answered(2, 1, 2), Discovery(2, _, ending, _)) => {
+            ending == Faultless || ending == Aborted
         }
-        (Heard::Request(2, FAILED), Heard::Discovery(2, _, Ending::Aborted, _)) => true,
+        (Request(2, FailedToSend), Discovery(2, _, Aborted, _)) => true,
         _ => false,
     }
 }
@@ -148,7 +92,7 @@ fn is_cut(request: Heard, discovery: Heard) -> bool {
 #[test]
 fn a_close_comes_while_a_client_calls_over_rings(rt: HostRuntime) -> Result<(), Fail> {
     for _session in 0..TIMES {
-        let mut player = Player::new(&ASKER);
+        let mut player = Player::new(ASKER.0);
         let over = plays(&rt, rt.alloc(), &mut player, 8)?;
         let (request, discovery) = (player.heard[10], player.heard[11]);
         player_heard(&player, 0, &asker_heard(request, discovery))?;
