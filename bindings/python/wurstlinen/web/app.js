@@ -99,7 +99,7 @@ function header(name) {
     const all = partsOf("fixture/").filter((found) => found.identifies && !found.missing);
     const stop = all.length > 0 && button(`${all.length} ${all.length > 1 ? "identify" : "identifies"} · Stop`, () =>
         all.forEach(({ uid }) => act("identify", { uid, on: false })), { id: "stop", disabled: !maySend() });
-    const isOwn = parts.get("clients")?.some(({ paused, is_page: isPage }) => paused && isPage);
+    const isOwn = maySend() && parts.get("clients")?.some(({ paused, is_page: isPage }) => paused && isPage);
     const where = now?.paused && !lost && make("a", { href: addressOf("line") }, isOwn ? " Resume it in Line"
         : " Line says who paused");
     return make("header", {}, make("h1", {}, "Wurstlinen"),
