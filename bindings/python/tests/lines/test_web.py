@@ -268,7 +268,7 @@ class Fixtures(BrowserTestCase):
     def test_a_file(self, size: Tuple[int, int]) -> None:
         with folder() as place, opened(size, "file") as (seen, web, _), web.follow() as events:
             folder_of_downloads(seen.page, place)
-            seen.button("Save as CSV")
+            seen.button("Save fixtures as CSV")
             saved = place / "rig.csv"
             until = time.monotonic() + 20
             while not saved.is_file() or not saved.stat().st_size:
@@ -456,7 +456,7 @@ class OtherViews(BrowserTestCase):
     def test_discovery(self, size: Tuple[int, int]) -> None:
         with opened(size, "discovery") as (seen, _, rig):
             seen.until("document.querySelector('.result')?.textContent.startsWith('5 fixtures found with')")
-            self.assertIn("if all on the line keep the rules, nothing else is on it", seen.texts(".result")[0])
+            self.assertIn("; nothing else can be on this line if it is honest.", seen.texts(".result")[0])
             self.assertIn("Once it has begun, nothing stops it: it ends by itself.", seen.texts(".tools p"))
             rig.gone.add(rig.fixtures[2].uid)
             rig.delay = 0.02
@@ -537,6 +537,7 @@ class OtherViews(BrowserTestCase):
                                 {**servers.HELLO, "name": "console"}) as program:
             seen.until("document.querySelector('main')?.textContent.includes('console')")
             # Another program waits for it, too.
+            self.assertIn("this page's own, too; it stops no DMX. Resume, here, ends it.", seen.texts("main")[0])
             seen.button("Pause RDM")
             self.assertEqual(seen.texts(".message p"), ["This holds the RDM requests of other programs, too: console."])
             seen.button("Pause them, too")
@@ -544,8 +545,7 @@ class OtherViews(BrowserTestCase):
                        " + 'Resume it in Line')")
             program.say({"do": "get", "uid": LEFT, "pid": "0081"})
             seen.until("document.querySelector('main')?.textContent.includes('when this page is closed: 1 request "
-                       "waits. A pause holds all RDM requests, ' + \"this page's own, too, until Resume is pressed "
-                       "here; it stops no DMX.\")")
+                       "waits. A pause holds all RDM requests, ' + \"this page's own, too; it stops no DMX.\")")
             # Each view leads to where it is resumed.
             seen.button("Fixtures")
             seen.button("Resume it in Line")
@@ -560,6 +560,7 @@ class OtherViews(BrowserTestCase):
             program.say({"do": "pause"})
             seen.until("[...document.querySelectorAll('main button:disabled')].some((each) => "
                        "each.textContent === 'paused by console')")
+            seen.until("document.querySelector('#status a')?.textContent === ' Line says who paused'")
             program.say({"do": "resume"})
             seen.button("Pause RDM")
             seen.button("Cancel")

@@ -174,7 +174,7 @@ class Always(BrowserTestCase):
                     .filter((each) => each.checkVisibility() && !each.disabled && !each.dataset.uid
                     && !each.closest('th') && each.type !== 'search' && !each.matches('.narrow'))
                     .map((each) => each.innerText)""")
-                free = {"file": ["Save as CSV", "Compare with a saved file …"]}
+                free = {"file": ["Save fixtures as CSV", "Compare with a saved file …"]}
                 self.assertEqual(able, free.get(view, ["‹ Previous", "Next ›"] if "/" in view else []), view)
 
     @at_each_size

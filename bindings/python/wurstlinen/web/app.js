@@ -99,9 +99,11 @@ function header(name) {
     const all = partsOf("fixture/").filter((found) => found.identifies && !found.missing);
     const stop = all.length > 0 && button(`${all.length} ${all.length > 1 ? "identify" : "identifies"} · Stop`, () =>
         all.forEach(({ uid }) => act("identify", { uid, on: false })), { id: "stop", disabled: !maySend() });
+    const isOwn = maySend() && parts.get("clients")?.some(({ paused, is_page: isPage }) => paused && isPage);
+    const where = now?.paused && !lost && make("a", { href: addressOf("line") }, isOwn ? " Resume it in Line"
+        : " Line says who paused");
     return make("header", {}, make("h1", {}, "Wurstlinen"),
-        make("p", { id: "status", role: "status", class: classes(isBad && "bad") }, statusText(now),
-            now?.paused && !lost && make("a", { href: addressOf("line") }, " Resume it in Line")),
+        make("p", { id: "status", role: "status", class: classes(isBad && "bad") }, statusText(now), where),
         stop, button(last ? `Undo (${last.count})` : "Undo", () => say(`Undo: ${last.back}?`, { actions: [{ text:
             "Undo", act: () => undo(last) }] }), { id: "undo", disabled: !mayUndo() || !last }),
         make("nav", { "aria-label": "Views" }, Object.entries(TITLES).map(([each, title]) => make("a",

@@ -10,7 +10,7 @@ function resultText(last) {
     const first = bad.length ? `Take ${bad.join(", ")} off the line, and discover again. ` : "";
     return last.fault ? `${first}The discovery is incomplete: ${named(last.fault)}. ${found}.`
         : last.is_broken ? `${first}${found}; a rule was broken, so others may be missing.`
-            : last.found ? `${found}; if all on the line keep the rules, nothing else is on it.`
+            : last.found ? `${found}; nothing else can be on this line if it is honest.`
                 : `${found}: check the adapter and the first cable.`;
 }
 
@@ -53,8 +53,7 @@ function section(title, items) {
 }
 
 export function view() {
-    const last = parts.get("discovery");
-    const address = last?.picture && `/picture/${last.picture}`;
+    const last = parts.get("discovery"), address = last?.picture && `/picture/${last.picture}`;
     const begin = button(last?.runs ? "Discovering …" : "Discover", () => act("discover", {}), { class: "main",
         disabled: !maySend() || Boolean(last?.runs) });
     return [make("div", { class: "tools" }, begin,

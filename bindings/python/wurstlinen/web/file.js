@@ -42,13 +42,13 @@ function differences(file) {
         + (found.some(({ kind }) => kind === "overlap") ? ", not in the file: Apply says which it ends." : ":")
         : "nothing differs."}`), make("p", {}, note),
     make("ul", { class: "differences" }, found.map(({ kind, uid, label, text }) => make("li", { class: classes(
-        ["missing", "overlap", "end"].includes(kind) && "bad") }, make("b", {}, `${kind}: `), linked(uid, label),
-    `, ${text}`)))];
+        ["missing", "overlap", "end"].includes(kind) && "bad") }, make("b", {},
+        kind === "new" ? "not in the file: " : `${kind}: `), linked(uid, label), `, ${text}`)))];
 }
 
 export function view() {
     const file = parts.get("file"), disabled = !mayUse();
-    return [make("div", { class: "tools" }, button("Save as CSV", save, { disabled }),
+    return [make("div", { class: "tools" }, button("Save fixtures as CSV", save, { disabled }),
         button(`Compare with ${file ? "another" : "a saved"} file …`, ({ target }) => target.nextSibling.click(),
             { disabled }),
         make("input", { type: "file", accept: ".csv,.txt,.tsv,text/csv", id: "chooser", hidden: true, onchange: load }),

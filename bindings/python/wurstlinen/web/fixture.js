@@ -67,7 +67,7 @@ export function view(uid) {
     maySend() && asked !== uid && !isOver && readAll(uid);
     const isReading = busy.has(`${uid}/show`) || isOver === false, notes = notesOf(found);
     const field = (text, column) => make("label", { class: "field" }, make("span", {}, text), editor(found, column));
-    const about = [found.manufacturer, found.model, uid, found.first && `slots ${slotsOf(found)}`].filter(Boolean);
+    const about = [found.manufacturer, found.model, uid, found.first && `at slot ${slotsOf(found)}`].filter(Boolean);
     const steps = [["‹ Previous", -1], [found.identifies && maySend() ? "Identify next ›" : "Next ›", 1]]
         .map(([text, by]) => button(text, () => go(uid, by), { class: "main" }));
     const short = ([title, text]) => `${title.replace(/^\d+ /, "")} ${text.split(" (")[0]}`.trim();

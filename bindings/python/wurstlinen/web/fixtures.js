@@ -4,7 +4,7 @@ import { absent, alarm, isUnderWay } from "/discovery.js";
 import { button, classes, isTouched, make, plural } from "/dom.js";
 import { fixtureOf, maySend, mayUse, parts, partsOf } from "/server.js";
 
-const COLUMNS = { label: "Label", address: "Address", slots: "Slots", personality: "Personality", model: "Model",
+const COLUMNS = { label: "Label", address: "Address", slots: "At slots", personality: "Personality", model: "Model",
     uid: "UID" };
 export const SENDING = isTouched ? "Leaving a box sends what you typed; ✕ leaves it as it was."
     : "Enter, or leaving a field, sends what you typed; Escape restores it.";

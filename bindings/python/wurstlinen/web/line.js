@@ -30,8 +30,8 @@ function programsOf(clients) {
 
 const waits = (count) => (count ? `${plural(count, "request")} wait${count > 1 ? "" : "s"}` : "nothing waits");
 const waitingText = (isPaused, count) => (isPaused ? "Paused, until whoever paused resumes, also when this page is "
-    + "closed: " : "") + `${waits(count)}. A pause holds all RDM requests, `
-    + "this page's own, too, until Resume is pressed here; it stops no DMX.";
+    + "closed: " : "") + `${waits(count)}. A pause holds all RDM requests, this page's own, too; it stops no DMX.${
+    isPaused ? "" : " Resume, here, ends it."}`;
 
 // The pause, which is asked for once more if it is one for other programs, too; or who has paused.
 function pauser(isPaused, clients, disabled) {
