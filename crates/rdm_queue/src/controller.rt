@@ -36,7 +36,7 @@ impl Model for Controller {
 
 impl Controller {
     ghost use Rattle.std.specs.Prelude.{◌≡◌, ◌∷◌, ◌<◌, ◌≤◌, ◌+◌, ◌-◌, ◌*◌, [], true, false, length, IfOk, IfErr};
-    ghost use Rattle.std.specs.Prelude.{IfSome, IfNone, OnErr, OnSome, Some, ◌≢◌, option_map};
+    ghost use Rattle.std.specs.Prelude.{IfSome, IfNone, OnErr, OnSome, Some, None, Ok, Err, ◌≢◌, option_map};
     ghost use Rattle.rdm_log.specs.declared.entry.Entry.TheVariants.{Send, Came, Close};
     ghost use Rattle.rdm_log.specs.log.History.{awaited, is_paused, is_closed, can_pause, can_resume, is_idle};
     ghost use Rattle.rdm_log.specs.log.History.{next_client};
@@ -51,7 +51,7 @@ impl Controller {
     ghost use Rattle.rdm_queue.specs.promises.Oldest.{outcome_shown, kind_shown, flag_shown};
     ghost use Rattle.rdm_log.specs.log.Broken.{oldest_may_be_incomplete};
     ghost use Rattle.rdm_queue.specs.body.Agrees.{StandsAfter, ForEachBlock, AddsAmid, Ends, FinishesEach};
-    ghost use Rattle.rdm_queue.specs.body.State.{unended, uncollected};
+    ghost use Rattle.rdm_queue.specs.body.State.{unended, uncollected, first_fault};
     ghost use Rattle.rdm_log.specs.log.Runs.{known_devices, devices_run, next_run};
     ghost use Rattle.rdm_log.specs.promises.Outcomes.{oldest_kind, request_outcome, discovery_outcome};
     ghost use Rattle.rdm_log.specs.declared.outcome.OutcomeKind.TheVariants as kinds;
@@ -102,7 +102,29 @@ impl Controller {
             (λ k. WorkAdds k.opening k.entries client work (number_or_fault result)) self.new }
         ensures unchanged { IfErr result (λ e. (e.1 ≡ work) × (self.new ≡ self.old)) }
     {
-        self.queue.accept(client, work)
+        if let Some(fault) = self.first_fault(client, &work) {
+            return Err((fault, work));
+        }
+        Ok(self.add(client, work))
+    }
+
+    /// The first fault that refuses a client's work.
+    #[inline(always)]
+    pub(crate) fn first_fault(&self, client: ClientId, work: &Work) -> Option<WorkFault>
+        ensures first { result ≡ first_fault self.now client.0 work.now }
+        ensures adds { IfSome result (λ fault. AddsToEach self.now
+            (λ k. WorkAdds k.opening k.entries client work.now (Err fault)) self.now) }
+    {
+        self.queue.first_fault(client, work)
+    }
+
+    /// Accepts a client's work, which no fault refuses, and returns its number.
+    #[inline(always)]
+    pub(crate) fn add(&mut self, client: ClientId, work: Work) -> u64
+        requires { first_fault self.old client.0 work ≡ None }
+        ensures { AddsToEach self.old (λ k. WorkAdds k.opening k.entries client work (Ok result)) self.new }
+    {
+        self.queue.add(client, work)
     }
 
     /// Accepts a client's request, and returns its number. It is outstanding until its outcome is collected.

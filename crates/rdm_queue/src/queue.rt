@@ -183,8 +183,8 @@ impl Queue {
         Ok(number)
     }
 
-    // The first fault of a client's work.
-    fn first_fault(&self, client: ClientId, work: &Work) -> Option<WorkFault>
+    /// The first fault of a client's work.
+    pub(crate) fn first_fault(&self, client: ClientId, work: &Work) -> Option<WorkFault>
         ensures { result ≡ first_fault self.now client.0 work.now }
     {
         if self.closed {
@@ -212,21 +212,17 @@ impl Queue {
             .count()
     }
 
-    /// Accepts a client's work, and returns its number.
+    /// Accepts a client's work, which no fault refuses, and returns its number.
     // It is inlined: a request is large, and each call would move it there and back.
     #[inline(always)]
-    pub(crate) fn accept(&mut self, client: ClientId, work: Work) -> Result<u64, (WorkFault, Work)>
-        ensures accepted { IfOk result (λ n. (first_fault self.old client.0 work ≡ None)
-            × (n ≡ number_for self.old work) × (self.new ≡ accepts_work self.old client.0 work)) }
-        ensures refused { IfErr result (λ e. (first_fault self.old client.0 work ≡ Some e.0) × (e.1 ≡ work)) }
-        ensures unchanged { OnErr result (self.new ≡ self.old) }
+    pub(crate) fn add(&mut self, client: ClientId, work: Work) -> u64
+        requires { first_fault self.old client.0 work ≡ None }
+        ensures number { result ≡ number_for self.old work }
+        ensures accepted { self.new ≡ accepts_work self.old client.0 work }
     {
-        if let Some(fault) = self.first_fault(client, &work) {
-            return Err((fault, work));
-        }
         match work {
-            Work::Submit(request) => Ok(self.accept_request(client, request)),
-            Work::Discover(kind) => Ok(self.accept_discovery(client, kind)),
+            Work::Submit(request) => self.accept_request(client, request),
+            Work::Discover(kind) => self.accept_discovery(client, kind),
         }
     }
 

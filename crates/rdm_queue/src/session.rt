@@ -119,17 +119,14 @@ impl Session {
         if self.is_full() {
             return Err((WorkFault::LogFull, work));
         }
-        let copy = work.copied();
-        match self.controller.accept(client, work) {
-            Ok(number) => {
-                self.log.append(copy.accepted(client, number));
-                Ok(number)
-            }
-            Err((fault, work)) => {
-                self.log.append(copy.refused(client, fault));
-                Err((fault, work))
-            }
+        if let Some(fault) = self.controller.first_fault(client, &work) {
+            self.log.append(work.copied().refused(client, fault));
+            return Err((fault, work));
         }
+        let copy = work.copied();
+        let number = self.controller.add(client, work);
+        self.log.append(copy.accepted(client, number));
+        Ok(number)
     }
 
     /// Accepts a client's request, as [`Controller::submit`] does. Each refusal except LogFull is an entry.

@@ -6,7 +6,7 @@ use Rattle.rdm_queue.proofs.Common.{grown, ClientId, Owner, Entry, Join, Send, C
 use Rattle.rdm_queue.proofs.Common.{JoinFault, WorkFault, Work, Device, Outcome, Completion, join_fault, first_fault}
 use Rattle.rdm_queue.proofs.Common.{outcome_value, request_outcome, discovery_outcome, oldest_kind, RefusesJoin}
 use Rattle.rdm_queue.proofs.Common.{join_refused, work_refused, work_accepted, CloseAdds, IsWithResults, is_result}
-use Rattle.rdm_queue.proofs.Common.{AllResults, QueueState, first_join_fault, WorkAdds, number_or_fault, number_for}
+use Rattle.rdm_queue.proofs.Common.{AllResults, QueueState, first_join_fault, WorkAdds, number_for}
 use Rattle.rdm_queue.proofs.Common.{joins_client, accepts_work, collects_oldest, owed_to, unended}
 use Rattle.rdm_queue.proofs.Common.{OwedOutcome, owed_next, end_of_oldest, CollectsOldest, first_kind, IsEnded}
 use Rattle.rdm_queue.proofs.Common.{HasNothingDue, FaultNeedsClose, AnswersInBound, block_more, ByRun, ByResult}
@@ -56,25 +56,29 @@ join_adds (Err fault) s new n joined refused same =
       after = rw same (join_refused_after k.opening k.entries s n fault refuses after);
     }
 
-pub work_adds : (r : Result ℕ (WorkFault × Work)) (s new : QueueState) (c : ClientId) (work : Work)
-    → IfOk r (λ n. (first_fault s c.0 work ≡ None) × (n ≡ number_for s work) × (new ≡ accepts_work s c.0 work))
-    → IfErr r (λ e. (first_fault s c.0 work ≡ Some e.0) × (e.1 ≡ work)) → OnErr r (new ≡ s)
-    → AddsToEach s (λ k. WorkAdds k.opening k.entries c work (number_or_fault r)) new
-work_adds (Ok n) s new c work accepted refused same =
+pub accept_adds : (s new : QueueState) (c : ClientId) (work : Work) (n : ℕ) → first_fault s c.0 work ≡ None
+    → n ≡ number_for s work → new ≡ accepts_work s c.0 work
+    → AddsToEach s (λ k. WorkAdds k.opening k.entries c work (Ok n)) new
+accept_adds s new c work n unrefused number accepted =
     λ k after.
-    let passes = sym (first_fault_is k.opening k.entries s c.0 work after) ∙ accepted.0 in
+    let passes = sym (first_fault_is k.opening k.entries s c.0 work after) ∙ unrefused in
     record {
       block = work_accepted c n work ∷ [];
-      adds = (passes, accepted.1 ∙ number_is k.opening k.entries s work after, refl);
-      after = rw accepted.2 (work_after k.opening k.entries s c n work passes accepted.1 after);
+      adds = (passes, number ∙ number_is k.opening k.entries s work after, refl);
+      after = rw accepted (work_after k.opening k.entries s c n work passes number after);
     }
-work_adds (Err e) s new c work accepted refused same =
+
+pub refusal_adds : (r : Option WorkFault) (s : QueueState) (c : ClientId) (work : Work)
+    → r ≡ first_fault s c.0 work
+    → IfSome r (λ fault. AddsToEach s (λ k. WorkAdds k.opening k.entries c work (Err fault)) s)
+refusal_adds None s c work is = tt
+refusal_adds (Some fault) s c work is =
     λ k after.
-    let refuses = sym (first_fault_is k.opening k.entries s c.0 work after) ∙ refused.0 in
+    let refuses = sym (is ∙ first_fault_is k.opening k.entries s c.0 work after) in
     record {
-      block = work_refused c work e.0 ∷ [];
+      block = work_refused c work fault ∷ [];
       adds = (refuses, refl);
-      after = rw same (work_refused_after k.opening k.entries s c work e.0 refuses after);
+      after = work_refused_after k.opening k.entries s c work fault refuses after;
     }
 
 pub given_each : (r : Option (Owner × ArrayVec ℕ)) (s new : QueueState)
