@@ -11,14 +11,18 @@ ghost use Rattle.rdm_agent.specs.declared.op.OpReply.{OpReply};
 ghost use Rattle.rdm_agent.specs.declared.op.Op.TheVariants.{End};
 ghost use Rattle.rdm_handles.specs.Forms.{search_of, kind_of, corrupt_uid, number_of_fault, form_of_device};
 ghost use Rattle.rdm_handles.specs.Packets.{first_of, frame_status};
-ghost use Rattle.rdm_handles.specs.Agents.{start_status, known_status, known_set, operation_status};
-ghost use Rattle.rdm_handles.specs.Agents.{operation_of, heard_of};
+ghost use Rattle.rdm_handles.specs.Agents.{start_status, known_status, known_set, operation_status, operation_of};
+ghost use Rattle.rdm_handles.specs.Agents.{heard_of};
 ghost use Rattle.rdm_handles.specs.Handles.{holds, a_discovery, Opens, Closes, StaysOpen, Reads, Reports};
 
+use rdm_agent::Op;
+use rdm_handles::agents::{self, operation_of};
+use rdm_handles::convert::{corrupt_uid, number_of_fault, write_bad_uids, write_devices};
+use rdm_handles::packets::put_frame;
 use rdm_handles::status::{
-    ALREADY_OPEN, BUFFER_TOO_SMALL, DONE, HAS_ENDED, NOT_ENDED, NOT_OPEN, OUT_OF_MEMORY,
+    ALREADY_OPEN, BUFFER_TOO_SMALL, DONE, HAS_ENDED, NOT_ENDED, NOT_OPEN, NOTHING, OUT_OF_MEMORY,
 };
-use rdm_handles::{DeviceForC, Discovery, Handle, StartForC, agents, controllers};
+use rdm_handles::{DeviceForC, Discovery, Handle, StartForC};
 use std::alloc::Global;
 
 /// Opens a handle: a run that begins like this, and knows these UIDs.
@@ -38,7 +42,7 @@ pub extern "C" fn wurst_agent_start(
         × (handle.new.discovery.tn ≡ start.now.tn) × HasRunBy (search_of start.now.search) (kind_of start.now.kind)
         (known_set [] known.now) start.now.budget false [] handle.new.discovery.agent }
 {
-    on_closed!(handle, alloc, agents::start(start, known))
+    on_closed!(handle, alloc => agents::start(start, known))
 }
 
 /// Ends the run of an open handle, frees its memory, and closes the handle. No effect on any other handle.
@@ -69,7 +73,16 @@ pub extern "C" fn wurst_agent_next(
         × (frame.new ≡ frame.old) }
 {
     on_held!(discovery: Discovery in handle, alloc => {
-        agents::next(discovery, operation, frame, len)
+        let op = discovery.agent.next();
+        if op == Op::End {
+            NOTHING
+        } else {
+            let status = put_frame(frame, &op.frame(discovery.source, discovery.tn), len);
+            if status == DONE {
+                *operation = operation_of(&op);
+            }
+            status
+        }
     })
 }
 
@@ -88,7 +101,7 @@ pub extern "C" fn wurst_agent_hear(alloc: Global, handle: &mut Handle, reply: &[
         × (handle.new.discovery.source ≡ handle.old.discovery.source) }
     ensures unchanged { result ≢ DONE → handle.new.discovery ≡ handle.old.discovery }
 {
-    on_held!(discovery: Discovery in handle, alloc => agents::hear_reply(discovery, reply))
+    on_held!(discovery: Discovery in handle, alloc => agents::hear(discovery, Some(reply)))
 }
 
 /// Records that the line failed, which ends the run.
@@ -122,10 +135,7 @@ pub extern "C" fn wurst_agent_stop(alloc: Global, handle: &mut Handle) -> u32
     ensures unchanged { holds a_discovery handle.old ≡ true → next_op handle.old.discovery.agent ≡ End →
         handle.new.discovery.agent ≡ handle.old.discovery.agent }
 {
-    on_held!(discovery: Discovery in handle, alloc => {
-        discovery.agent.stop();
-        DONE
-    })
+    on_held!(discovery: Discovery in handle, alloc => done!(discovery.agent.stop()))
 }
 
 /// Writes the devices found so far at the front of a buffer, and how many there are; with `BUFFER_TOO_SMALL` only that.
@@ -148,7 +158,7 @@ pub extern "C" fn wurst_agent_devices(
     ensures unchanged { result ≢ DONE → devices.new ≡ devices.old }
 {
     on_held!(discovery: Discovery in handle, alloc => {
-        controllers::devices(discovery.agent.found(), devices, count)
+        write_devices(discovery.agent.found(), devices, count)
     })
 }
 
@@ -175,7 +185,7 @@ pub extern "C" fn wurst_agent_bad_uids(
 {
     on_held!(discovery: Discovery in handle, alloc => {
         let has_more = discovery.agent.has_more_bad_uids();
-        controllers::bad_uids(discovery.agent.bad_uids(), has_more, uids, count, more)
+        write_bad_uids(discovery.agent.bad_uids(), has_more, uids, count, more)
     })
 }
 
@@ -194,7 +204,13 @@ pub extern "C" fn wurst_agent_fault(
         × (corrupt.new ≡ corrupt_uid (fault_of handle.old.discovery.agent.phase)) }
     ensures unchanged { result ≢ DONE → (fault.new ≡ fault.old) × (corrupt.new ≡ corrupt.old) }
 {
-    on_held!(discovery: Discovery in handle, alloc => agents::fault(discovery, fault, corrupt))
+    on_held!(discovery: Discovery in handle, alloc => if discovery.agent.next() == Op::End {
+        *fault = number_of_fault(discovery.agent.fault());
+        *corrupt = corrupt_uid(discovery.agent.fault());
+        DONE
+    } else {
+        NOT_ENDED
+    })
 }
 
 /// Writes how many exchanges the run has made.
@@ -203,8 +219,5 @@ pub extern "C" fn wurst_agent_frames(alloc: Global, handle: &mut Handle, frames:
     ensures reports { Reports a_discovery handle.old handle.new result (frames.new ≡ handle.old.discovery.agent.frames)
         (frames.new ≡ frames.old) }
 {
-    on_held!(discovery: Discovery in handle, alloc => {
-        *frames = discovery.agent.frames();
-        DONE
-    })
+    on_held!(discovery: Discovery in handle, alloc => done!(*frames = discovery.agent.frames()))
 }

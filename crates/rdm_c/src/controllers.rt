@@ -23,15 +23,19 @@ ghost use Rattle.rdm_handles.specs.Answers.{number_of_outcome_kind};
 ghost use Rattle.rdm_handles.specs.Handles.{holds, a_controller, Opens, Closes, StaysOpen, Reads, Reports};
 
 use rdm_agent::MOST_APART;
+use rdm_handles::convert::{
+    completion_for_c, end_for_c, kind_of, put_bytes, put_devices, request_of, setup_of,
+    status_of_join, status_of_work, write_bad_uids, write_devices,
+};
 use rdm_handles::status::{
-    ALREADY_OPEN, BAD_KIND, BUFFER_TOO_SMALL, DONE, NOT_ASKED, NOT_OPEN, NOTHING, OUT_OF_MEMORY,
-    REPLY_TOO_LONG,
+    ALREADY_OPEN, BAD_KIND, BUFFER_TOO_SMALL, DONE, NOT_ASKED, NOT_OPEN, NOTHING, OTHER_OUTCOME,
+    OUT_OF_MEMORY, REPLY_TOO_LONG, UNKNOWN_CLIENT,
 };
-use rdm_handles::{
-    CompletionForC, DeviceForC, EndForC, Handle, RequestForC, SetupForC, controllers,
-};
-use rdm_join::LineEvent;
-use rdm_queue::Controller;
+use rdm_handles::{CompletionForC, DeviceForC, EndForC, Handle, RequestForC, SetupForC};
+use rdm_join::{LineEvent, LineReply};
+use rdm_log::ClientId;
+use rdm_queue::{Controller, Oldest};
+use rdm_wire::{DeviceSet, MOST_FRAME_BYTES};
 use std::alloc::Global;
 
 /// Opens a handle: a controller with this set-up, without clients.
@@ -47,7 +51,10 @@ pub extern "C" fn wurst_controller_open(
         ⊎ (result ≡ DONE) }
     ensures opened { result ≡ DONE → IsSetUp (setup_of setup.now) handle.new.controller }
 {
-    on_closed!(handle, alloc, controllers::open(alloc, setup))
+    on_closed!(handle, alloc => match setup_of(setup) {
+        Ok(setup) => Controller::new(alloc, setup).or(Err(OUT_OF_MEMORY)),
+        Err(fault) => Err(fault),
+    })
 }
 
 /// Ends the controller of an open handle, frees its memory, and closes the handle. No effect on any other handle.
@@ -72,7 +79,7 @@ pub extern "C" fn wurst_controller_join(
     ensures unchanged { result ≢ DONE → (handle.new.controller ≡ handle.old.controller) × (client.new ≡ client.old) }
 {
     on_held!(controller: Controller in handle, alloc => {
-        controllers::join(controller, alloc, places, client)
+        call_join!(controller, alloc, places, client)
     })
 }
 
@@ -96,7 +103,7 @@ pub extern "C" fn wurst_controller_submit(
     ensures unchanged { result ≢ DONE → (handle.new.controller ≡ handle.old.controller) × (number.new ≡ number.old) }
 {
     on_held!(controller: Controller in handle, alloc => {
-        controllers::submit(controller, client, request, param_bytes, number)
+        call_submit!(controller, client, request, param_bytes, number)
     })
 }
 
@@ -117,7 +124,7 @@ pub extern "C" fn wurst_controller_discover(
     ensures unchanged { result ≢ DONE → (handle.new.controller ≡ handle.old.controller) × (number.new ≡ number.old) }
 {
     on_held!(controller: Controller in handle, alloc => {
-        controllers::discover(controller, client, kind, number)
+        call_discover!(controller, client, kind, number)
     })
 }
 
@@ -130,10 +137,7 @@ pub extern "C" fn wurst_controller_pause(alloc: Global, handle: &mut Handle) -> 
     ensures unchanged { holds a_controller handle.old ≡ true → ForEachLog handle.old.controller
         (λ o h. can_pause o h ≡ false → handle.new.controller ≡ handle.old.controller) }
 {
-    on_held!(controller: Controller in handle, alloc => {
-        controller.pause();
-        DONE
-    })
+    on_held!(controller: Controller in handle, alloc => done!(controller.pause()))
 }
 
 /// Begins runs and sends requests again.
@@ -145,10 +149,7 @@ pub extern "C" fn wurst_controller_resume(alloc: Global, handle: &mut Handle) ->
     ensures unchanged { holds a_controller handle.old ≡ true → ForEachLog handle.old.controller
         (λ o h. can_resume o h ≡ false → handle.new.controller ≡ handle.old.controller) }
 {
-    on_held!(controller: Controller in handle, alloc => {
-        controller.resume();
-        DONE
-    })
+    on_held!(controller: Controller in handle, alloc => done!(controller.resume()))
 }
 
 /// Refuses all later joins, submits and discovers, and sends nothing more.
@@ -160,10 +161,7 @@ pub extern "C" fn wurst_controller_close(alloc: Global, handle: &mut Handle) -> 
     ensures unchanged { holds a_controller handle.old ≡ true → ForEachLog handle.old.controller
         (λ o h. is_closed o h ≡ true → handle.new.controller ≡ handle.old.controller) }
 {
-    on_held!(controller: Controller in handle, alloc => {
-        controller.close();
-        DONE
-    })
+    on_held!(controller: Controller in handle, alloc => done!(controller.close()))
 }
 
 /// Writes the next frame for the line at the front of a buffer of 257 bytes, and how many bytes it has.
@@ -186,7 +184,17 @@ pub extern "C" fn wurst_controller_take(
     ensures unchanged { result ≢ DONE → (handle.new.controller ≡ handle.old.controller) × (len.new ≡ len.old)
         × (frame.new ≡ frame.old) }
 {
-    on_held!(controller: Controller in handle, alloc => controllers::take(controller, frame, len))
+    on_held!(controller: Controller in handle, alloc => if frame.len() < MOST_FRAME_BYTES {
+        BUFFER_TOO_SMALL
+    } else {
+        match controller.take() {
+            Some(bytes) => {
+                *len = put_bytes(frame, &bytes);
+                DONE
+            }
+            None => NOTHING,
+        }
+    })
 }
 
 /// Takes the bytes that the line answered to the last frame. No bytes are silence.
@@ -201,9 +209,7 @@ pub extern "C" fn wurst_controller_deliver(alloc: Global, handle: &mut Handle, r
     ensures not_asked { result ≡ NOT_ASKED → ForEachLog handle.old.controller (λ o h. awaited h ≡ false) }
     ensures unchanged { result ≢ DONE → handle.new.controller ≡ handle.old.controller }
 {
-    on_held!(controller: Controller in handle, alloc => {
-        controllers::deliver(controller, alloc, reply)
-    })
+    on_held!(controller: Controller in handle, alloc => call_deliver!(controller, alloc, reply))
 }
 
 /// Records that the line failed at the last frame.
@@ -217,7 +223,7 @@ pub extern "C" fn wurst_controller_fail(alloc: Global, handle: &mut Handle) -> u
     ensures unchanged { result ≢ DONE → handle.new.controller ≡ handle.old.controller }
 {
     on_held!(controller: Controller in handle, alloc => {
-        controllers::hear(controller, alloc, LineEvent::Failed)
+        done_or!(NOT_ASKED, controller.deliver(alloc, LineEvent::Failed))
     })
 }
 
@@ -236,14 +242,13 @@ pub extern "C" fn wurst_controller_oldest(
         (λ o h. option_map number_of_outcome_kind (oldest_kind o h client) ≡ Some kind.new) }
     ensures unchanged { result ≢ DONE → kind.new ≡ kind.old }
 {
-    on_held!(controller: Controller in handle, alloc => {
-        controllers::oldest(controller, client, kind)
-    })
+    on_held!(controller: Controller in handle, alloc => call_oldest!(controller, client, kind))
 }
 
 /// Collects a client's oldest outcome if it is a request's, and writes how it ended, with its data at the front of
 /// a buffer. `BUFFER_TOO_SMALL` writes how many bytes it needs into `len`.
 #[unsafe(no_mangle)]
+#[tactic(auto, using(crate::proofs::AnswerLemmas::length_of_oldest))]
 pub extern "C" fn wurst_controller_next_completion(
     alloc: Global,
     handle: &mut Handle,
@@ -269,13 +274,14 @@ pub extern "C" fn wurst_controller_next_completion(
     ensures unchanged { result ≢ DONE → (handle.new.controller ≡ handle.old.controller) × (buffer.new ≡ buffer.old) }
 {
     on_held!(controller: Controller in handle, alloc => {
-        controllers::next_completion(controller, client, completion, buffer)
+        call_next_completion!(controller, client, completion, buffer)
     })
 }
 
 /// Collects a client's oldest outcome if it is a discovery's, and writes how it ended, with its devices at the
 /// front of a buffer. `BUFFER_TOO_SMALL` writes how many devices it needs into `count`.
 #[unsafe(no_mangle)]
+#[tactic(auto, using(crate::proofs::AnswerLemmas::length_of_oldest))]
 pub extern "C" fn wurst_controller_next_discovery(
     alloc: Global,
     handle: &mut Handle,
@@ -299,7 +305,7 @@ pub extern "C" fn wurst_controller_next_discovery(
         × (devices.new ≡ devices.old) }
 {
     on_held!(controller: Controller in handle, alloc => {
-        controllers::next_discovery(controller, client, end, devices)
+        call_next_discovery!(controller, client, end, devices)
     })
 }
 
@@ -323,7 +329,7 @@ pub extern "C" fn wurst_controller_devices(
     ensures unchanged { result ≢ DONE → devices.new ≡ devices.old }
 {
     on_held!(controller: Controller in handle, alloc => {
-        controllers::devices(controller.devices(), devices, count)
+        write_devices(controller.devices(), devices, count)
     })
 }
 
@@ -337,10 +343,7 @@ pub extern "C" fn wurst_controller_devices_run(
     ensures reports { Reports a_controller handle.old handle.new result
         (ForEachLog handle.old.controller (λ o h. run.new ≡ devices_run o h)) (run.new ≡ run.old) }
 {
-    on_held!(controller: Controller in handle, alloc => {
-        *run = controller.devices_run();
-        DONE
-    })
+    on_held!(controller: Controller in handle, alloc => done!(*run = controller.devices_run()))
 }
 
 /// Writes the bad UIDs of the run that began last at the front of a buffer, how many there are, and whether there were
@@ -366,7 +369,7 @@ pub extern "C" fn wurst_controller_bad_uids(
 {
     on_held!(controller: Controller in handle, alloc => {
         let has_more = controller.has_more_bad_uids();
-        controllers::bad_uids(controller.bad_uids(), has_more, uids, count, more)
+        write_bad_uids(controller.bad_uids(), has_more, uids, count, more)
     })
 }
 
@@ -380,10 +383,7 @@ pub extern "C" fn wurst_controller_bad_uids_run(
     ensures reports { Reports a_controller handle.old handle.new result
         (ForEachLog handle.old.controller (λ o h. run.new ≡ next_run o h - 1)) (run.new ≡ run.old) }
 {
-    on_held!(controller: Controller in handle, alloc => {
-        *run = controller.bad_uids_run();
-        DONE
-    })
+    on_held!(controller: Controller in handle, alloc => done!(*run = controller.bad_uids_run()))
 }
 
 /// Writes whether the queue is idle: no call waits or is being served, and no outcome is uncollected.
@@ -396,10 +396,7 @@ pub extern "C" fn wurst_controller_is_idle(
     ensures reports { Reports a_controller handle.old handle.new result
         (ForEachLog handle.old.controller (λ o h. answer.new ≡ is_idle h)) (answer.new ≡ answer.old) }
 {
-    on_held!(controller: Controller in handle, alloc => {
-        *answer = controller.is_idle();
-        DONE
-    })
+    on_held!(controller: Controller in handle, alloc => done!(*answer = controller.is_idle()))
 }
 
 /// Writes whether sending is paused.
@@ -412,10 +409,7 @@ pub extern "C" fn wurst_controller_is_paused(
     ensures reports { Reports a_controller handle.old handle.new result
         (ForEachLog handle.old.controller (λ o h. answer.new ≡ is_paused o h)) (answer.new ≡ answer.old) }
 {
-    on_held!(controller: Controller in handle, alloc => {
-        *answer = controller.is_paused();
-        DONE
-    })
+    on_held!(controller: Controller in handle, alloc => done!(*answer = controller.is_paused()))
 }
 
 /// Writes whether the queue is closed.
@@ -428,10 +422,7 @@ pub extern "C" fn wurst_controller_is_closed(
     ensures reports { Reports a_controller handle.old handle.new result
         (ForEachLog handle.old.controller (λ o h. answer.new ≡ is_closed o h)) (answer.new ≡ answer.old) }
 {
-    on_held!(controller: Controller in handle, alloc => {
-        *answer = controller.is_closed();
-        DONE
-    })
+    on_held!(controller: Controller in handle, alloc => done!(*answer = controller.is_closed()))
 }
 
 /// Writes whether a reply is awaited.
@@ -444,8 +435,5 @@ pub extern "C" fn wurst_controller_awaits(
     ensures reports { Reports a_controller handle.old handle.new result
         (ForEachLog handle.old.controller (λ o h. answer.new ≡ awaited h)) (answer.new ≡ answer.old) }
 {
-    on_held!(controller: Controller in handle, alloc => {
-        *answer = controller.awaits();
-        DONE
-    })
+    on_held!(controller: Controller in handle, alloc => done!(*answer = controller.awaits()))
 }

@@ -27,10 +27,7 @@ pub extern "C" fn wurst_session_free_entries(
     ensures reports { Reports a_session handle.old handle.new result (count.new ≡ free_entries handle.old.session)
         (count.new ≡ count.old) }
 {
-    on_held!(session: Session in handle, alloc => {
-        *count = session.free();
-        DONE
-    })
+    on_held!(session: Session in handle, alloc => done!(*count = session.free()))
 }
 
 /// Writes how many entries the log stores. With those that it doesn't store it is legal, and keeps all that clients are
@@ -46,10 +43,7 @@ pub extern "C" fn wurst_session_entry_count(
     ensures legal { holds a_session handle.old ≡ true → Legal handle.old.session.opening handle.old.session.entries }
     ensures promised { holds a_session handle.old ≡ true → Promised handle.old.session }
 {
-    on_held!(session: Session in handle, alloc => {
-        *count = session.log().entries().len();
-        DONE
-    })
+    on_held!(session: Session in handle, alloc => done!(*count = session.log().entries().len()))
 }
 
 /// Writes the stored entry with this index, from 0, with its bytes at the front of a buffer. `BUFFER_TOO_SMALL` writes
@@ -171,7 +165,7 @@ pub extern "C" fn wurst_session_drain(
     };
     let number = session.log().first_stored();
     if let Some(mut page) = log.take::<Log>(alloc) {
-        let status = sessions::drain_into(&mut session, &mut page);
+        let status = done_or!(LOG_FULL, session.drain_into(&mut page));
         log.put(page);
         handle.put(session);
         if status == DONE {
@@ -209,10 +203,7 @@ pub extern "C" fn wurst_log_entry_count(
     ensures reports { Reports a_log handle.old handle.new result (count.new ≡ length (stored handle.old.log))
         (count.new ≡ count.old) }
 {
-    on_held!(log: Log in handle, alloc => {
-        *count = log.entries().len();
-        DONE
-    })
+    on_held!(log: Log in handle, alloc => done!(*count = log.entries().len()))
 }
 
 /// Writes the log's entry with this index, as `wurst_session_entry` does.

@@ -25,16 +25,30 @@ ghost use Rattle.rdm_handles.specs.Sessions.{open_status, full_status};
 ghost use Rattle.rdm_handles.specs.Handles.{holds, a_session, Opens, Closes, StaysOpen, Reads, Reports};
 
 use rdm_agent::MOST_APART;
+use rdm_handles::convert::{
+    completion_for_c, end_for_c, kind_of, put_bytes, put_devices, request_of, setup_of,
+    status_of_join, status_of_work, write_bad_uids, write_devices,
+};
 use rdm_handles::status::{
     ALREADY_OPEN, BAD_KIND, BUFFER_TOO_SMALL, DONE, LOG_FULL, NOT_ASKED, NOT_OPEN, NOTHING,
-    OUT_OF_MEMORY, REPLY_TOO_LONG,
+    OTHER_OUTCOME, OUT_OF_MEMORY, REPLY_TOO_LONG, TOO_MANY_ENTRIES, UNKNOWN_CLIENT,
 };
-use rdm_handles::{
-    CompletionForC, DeviceForC, EndForC, Handle, RequestForC, SetupForC, controllers, sessions,
-};
-use rdm_join::LineEvent;
-use rdm_queue::Session;
+use rdm_handles::{CompletionForC, DeviceForC, EndForC, Handle, RequestForC, SetupForC};
+use rdm_join::{LineEvent, LineReply};
+use rdm_log::{ClientId, Log, MOST_FREE_ENTRIES};
+use rdm_queue::{Oldest, Session};
+use rdm_wire::{DeviceSet, MOST_FRAME_BYTES};
 use std::alloc::Global;
+
+/// A session with this set-up and this log, if there is memory for both.
+macro_rules! begun {
+    ($alloc:ident, $setup:ident, $log:expr) => {
+        match $log {
+            Ok(log) => Session::new($alloc, $setup, log).or(Err(OUT_OF_MEMORY)),
+            Err(_) => Err(OUT_OF_MEMORY),
+        }
+    };
+}
 
 /// Opens a handle: a session with this set-up, without clients, and with a log of this many entries.
 #[unsafe(no_mangle)]
@@ -51,7 +65,11 @@ pub extern "C" fn wurst_session_open(
         ⊎ (result ≡ DONE) }
     ensures opened { result ≡ DONE → handle.new.session ≡ begun (setup_of setup.now) (blank_log (entries + 1)) }
 {
-    on_closed!(handle, alloc, sessions::open(alloc, setup, entries))
+    on_closed!(handle, alloc => match setup_of(setup) {
+        Ok(_) if entries > MOST_FREE_ENTRIES => Err(TOO_MANY_ENTRIES),
+        Ok(setup) => begun!(alloc, setup, Log::new(alloc, entries)),
+        Err(fault) => Err(fault),
+    })
 }
 
 /// Opens a handle: a session with this set-up, without clients, whose log keeps nothing. So it can last for years.
@@ -67,7 +85,10 @@ pub extern "C" fn wurst_session_open_without_log(
         ⊎ (result ≡ DONE) }
     ensures opened { result ≡ DONE → handle.new.session ≡ begun (setup_of setup.now) nothing_log }
 {
-    on_closed!(handle, alloc, sessions::open_without_log(alloc, setup))
+    on_closed!(handle, alloc => match setup_of(setup) {
+        Ok(setup) => begun!(alloc, setup, Log::nothing(alloc)),
+        Err(fault) => Err(fault),
+    })
 }
 
 /// Ends the session of an open handle, frees its memory and that of its log, and closes the handle. No effect on
@@ -94,7 +115,7 @@ pub extern "C" fn wurst_session_join(
     ensures legal { holds a_session handle.old ≡ true → Legal handle.new.session.opening handle.new.session.entries }
     ensures unchanged { result ≢ DONE → client.new ≡ client.old }
 {
-    on_held!(session: Session in handle, alloc => sessions::join(session, alloc, places, client))
+    on_held!(session: Session in handle, alloc => call_join!(session, alloc, places, client))
 }
 
 /// Accepts a client's request with these parameter data, and writes its number.
@@ -121,7 +142,7 @@ pub extern "C" fn wurst_session_submit(
     ensures unchanged { result ≢ DONE → number.new ≡ number.old }
 {
     on_held!(session: Session in handle, alloc => {
-        sessions::submit(session, client, request, param_bytes, number)
+        call_submit!(session, client, request, param_bytes, number)
     })
 }
 
@@ -145,7 +166,7 @@ pub extern "C" fn wurst_session_discover(
         handle.new.session.entries }
     ensures unchanged { result ≢ DONE → number.new ≡ number.old }
 {
-    on_held!(session: Session in handle, alloc => sessions::discover(session, client, kind, number))
+    on_held!(session: Session in handle, alloc => call_discover!(session, client, kind, number))
 }
 
 /// Begins no run and sends no request until `wurst_session_resume`.
@@ -158,7 +179,7 @@ pub extern "C" fn wurst_session_pause(alloc: Global, handle: &mut Handle) -> u32
     ensures legal { holds a_session handle.old ≡ true → Legal handle.new.session.opening handle.new.session.entries }
     ensures unchanged { result ≢ DONE → handle.new.session ≡ handle.old.session }
 {
-    on_held!(session: Session in handle, alloc => sessions::pause(session))
+    on_held!(session: Session in handle, alloc => done_or!(LOG_FULL, session.pause()))
 }
 
 /// Begins runs and sends requests again.
@@ -171,7 +192,7 @@ pub extern "C" fn wurst_session_resume(alloc: Global, handle: &mut Handle) -> u3
     ensures legal { holds a_session handle.old ≡ true → Legal handle.new.session.opening handle.new.session.entries }
     ensures unchanged { result ≢ DONE → handle.new.session ≡ handle.old.session }
 {
-    on_held!(session: Session in handle, alloc => sessions::resume(session))
+    on_held!(session: Session in handle, alloc => done_or!(LOG_FULL, session.resume()))
 }
 
 /// Refuses all later joins, submits and discovers, and sends nothing more.
@@ -182,10 +203,7 @@ pub extern "C" fn wurst_session_close(alloc: Global, handle: &mut Handle) -> u32
         (CloseAdds handle.old.session.opening handle.old.session.entries) handle.new.session }
     ensures legal { holds a_session handle.old ≡ true → Legal handle.new.session.opening handle.new.session.entries }
 {
-    on_held!(session: Session in handle, alloc => {
-        session.close();
-        DONE
-    })
+    on_held!(session: Session in handle, alloc => done!(session.close()))
 }
 
 /// Writes the next frame for the line at the front of a buffer of 257 bytes, and how many bytes it has.
@@ -211,7 +229,18 @@ pub extern "C" fn wurst_session_take(
     ensures unchanged { result ≢ DONE → (handle.new.session ≡ handle.old.session) × (len.new ≡ len.old)
         × (frame.new ≡ frame.old) }
 {
-    on_held!(session: Session in handle, alloc => sessions::take(session, frame, len))
+    on_held!(session: Session in handle, alloc => if frame.len() < MOST_FRAME_BYTES {
+        BUFFER_TOO_SMALL
+    } else {
+        match session.take() {
+            Ok(Some(bytes)) => {
+                *len = put_bytes(frame, &bytes);
+                DONE
+            }
+            Ok(None) => NOTHING,
+            Err(_) => LOG_FULL,
+        }
+    })
 }
 
 /// Takes the bytes that the line answered to the last frame. No bytes are silence.
@@ -228,7 +257,7 @@ pub extern "C" fn wurst_session_deliver(alloc: Global, handle: &mut Handle, repl
         handle.new.session.entries }
     ensures unchanged { result ≢ DONE → handle.new.session ≡ handle.old.session }
 {
-    on_held!(session: Session in handle, alloc => sessions::deliver(session, alloc, reply))
+    on_held!(session: Session in handle, alloc => call_deliver!(session, alloc, reply))
 }
 
 /// Records that the line failed at the last frame.
@@ -242,7 +271,9 @@ pub extern "C" fn wurst_session_fail(alloc: Global, handle: &mut Handle) -> u32
     ensures legal { holds a_session handle.old ≡ true → Legal handle.new.session.opening handle.new.session.entries }
     ensures unchanged { result ≢ DONE → handle.new.session ≡ handle.old.session }
 {
-    on_held!(session: Session in handle, alloc => sessions::hear(session, alloc, LineEvent::Failed))
+    on_held!(session: Session in handle, alloc => {
+        done_or!(NOT_ASKED, session.deliver(alloc, LineEvent::Failed))
+    })
 }
 
 /// Writes the kind of a client's oldest outcome: 0 for a request's, 1 for a discovery's.
@@ -260,12 +291,13 @@ pub extern "C" fn wurst_session_oldest(
         handle.old.session.entries client) ≡ Some kind.new }
     ensures unchanged { result ≢ DONE → kind.new ≡ kind.old }
 {
-    on_held!(session: Session in handle, alloc => sessions::oldest(session, client, kind))
+    on_held!(session: Session in handle, alloc => call_oldest!(session, client, kind))
 }
 
 /// Collects a client's oldest outcome if it is a request's, and writes how it ended, with its data at the front of
 /// a buffer. `BUFFER_TOO_SMALL` writes how many bytes it needs into `len`.
 #[unsafe(no_mangle)]
+#[tactic(auto, using(crate::proofs::AnswerLemmas::length_of_oldest))]
 pub extern "C" fn wurst_session_next_completion(
     alloc: Global,
     handle: &mut Handle,
@@ -292,13 +324,14 @@ pub extern "C" fn wurst_session_next_completion(
     ensures unchanged { result ≢ DONE → (handle.new.session ≡ handle.old.session) × (buffer.new ≡ buffer.old) }
 {
     on_held!(session: Session in handle, alloc => {
-        sessions::next_completion(session, client, completion, buffer)
+        call_next_completion!(session, client, completion, buffer)
     })
 }
 
 /// Collects a client's oldest outcome if it is a discovery's, and writes how it ended, with its devices at the
 /// front of a buffer. `BUFFER_TOO_SMALL` writes how many devices it needs into `count`.
 #[unsafe(no_mangle)]
+#[tactic(auto, using(crate::proofs::AnswerLemmas::length_of_oldest))]
 pub extern "C" fn wurst_session_next_discovery(
     alloc: Global,
     handle: &mut Handle,
@@ -321,7 +354,7 @@ pub extern "C" fn wurst_session_next_discovery(
     ensures unchanged { result ≢ DONE → (handle.new.session ≡ handle.old.session) × (devices.new ≡ devices.old) }
 {
     on_held!(session: Session in handle, alloc => {
-        sessions::next_discovery(session, client, end, devices)
+        call_next_discovery!(session, client, end, devices)
     })
 }
 
@@ -344,9 +377,7 @@ pub extern "C" fn wurst_session_devices(
         (known_devices handle.old.session.opening handle.old.session.entries) }
     ensures unchanged { result ≢ DONE → devices.new ≡ devices.old }
 {
-    on_held!(session: Session in handle, alloc => {
-        controllers::devices(session.devices(), devices, count)
-    })
+    on_held!(session: Session in handle, alloc => write_devices(session.devices(), devices, count))
 }
 
 /// Writes the number of the run that found the devices; 0 before the first.
@@ -359,10 +390,7 @@ pub extern "C" fn wurst_session_devices_run(
     ensures reports { Reports a_session handle.old handle.new result (run.new ≡ devices_run handle.old.session.opening
         handle.old.session.entries) (run.new ≡ run.old) }
 {
-    on_held!(session: Session in handle, alloc => {
-        *run = session.devices_run();
-        DONE
-    })
+    on_held!(session: Session in handle, alloc => done!(*run = session.devices_run()))
 }
 
 /// Writes the bad UIDs of the run that began last at the front of a buffer, how many there are, and whether there were
@@ -388,7 +416,7 @@ pub extern "C" fn wurst_session_bad_uids(
 {
     on_held!(session: Session in handle, alloc => {
         let has_more = session.has_more_bad_uids();
-        controllers::bad_uids(session.bad_uids(), has_more, uids, count, more)
+        write_bad_uids(session.bad_uids(), has_more, uids, count, more)
     })
 }
 
@@ -402,10 +430,7 @@ pub extern "C" fn wurst_session_bad_uids_run(
     ensures reports { Reports a_session handle.old handle.new result (run.new ≡ next_run handle.old.session.opening
         handle.old.session.entries - 1) (run.new ≡ run.old) }
 {
-    on_held!(session: Session in handle, alloc => {
-        *run = session.bad_uids_run();
-        DONE
-    })
+    on_held!(session: Session in handle, alloc => done!(*run = session.bad_uids_run()))
 }
 
 /// Writes whether the queue is idle: no call waits or is being served, and no outcome is uncollected.
@@ -418,10 +443,7 @@ pub extern "C" fn wurst_session_is_idle(
     ensures reports { Reports a_session handle.old handle.new result (answer.new ≡ is_idle handle.old.session.entries)
         (answer.new ≡ answer.old) }
 {
-    on_held!(session: Session in handle, alloc => {
-        *answer = session.is_idle();
-        DONE
-    })
+    on_held!(session: Session in handle, alloc => done!(*answer = session.is_idle()))
 }
 
 /// Writes whether sending is paused.
@@ -434,10 +456,7 @@ pub extern "C" fn wurst_session_is_paused(
     ensures reports { Reports a_session handle.old handle.new result (answer.new ≡ is_paused handle.old.session.opening
         handle.old.session.entries) (answer.new ≡ answer.old) }
 {
-    on_held!(session: Session in handle, alloc => {
-        *answer = session.is_paused();
-        DONE
-    })
+    on_held!(session: Session in handle, alloc => done!(*answer = session.is_paused()))
 }
 
 /// Writes whether the queue is closed.
@@ -450,10 +469,7 @@ pub extern "C" fn wurst_session_is_closed(
     ensures reports { Reports a_session handle.old handle.new result (answer.new ≡ is_closed handle.old.session.opening
         handle.old.session.entries) (answer.new ≡ answer.old) }
 {
-    on_held!(session: Session in handle, alloc => {
-        *answer = session.is_closed();
-        DONE
-    })
+    on_held!(session: Session in handle, alloc => done!(*answer = session.is_closed()))
 }
 
 /// Writes whether a reply is awaited.
@@ -462,8 +478,5 @@ pub extern "C" fn wurst_session_awaits(alloc: Global, handle: &mut Handle, answe
     ensures reports { Reports a_session handle.old handle.new result (answer.new ≡ awaited handle.old.session.entries)
         (answer.new ≡ answer.old) }
 {
-    on_held!(session: Session in handle, alloc => {
-        *answer = session.awaits();
-        DONE
-    })
+    on_held!(session: Session in handle, alloc => done!(*answer = session.awaits()))
 }

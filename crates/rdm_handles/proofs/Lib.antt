@@ -1,5 +1,4 @@
 pub mod Common
-pub mod AnswerLemmas
 pub mod FormLemmas
 pub mod Pointers
 pub mod Handles

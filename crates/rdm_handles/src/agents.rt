@@ -1,23 +1,21 @@
 //! C's calls on a discovery run without a queue, with their statuses.
-ghost use Rattle.std.specs.Prelude.{◌≡◌, ◌≢◌, ◌++◌, ◌∷◌, [], length, take, true, false, IfOk, IfErr, if◌then◌else◌};
-ghost use Rattle.std.specs.Prelude.{◌%◌, ◌^◌, ◌+◌, ◌==◌, option_copied, Some};
-ghost use Rattle.rdm_agent.specs.Machine.{fed, fault_of};
+ghost use Rattle.std.specs.Prelude.{◌≡◌, ◌≢◌, ◌++◌, ◌∷◌, [], true, false, IfOk, IfErr, if◌then◌else◌, ◌%◌, ◌^◌, ◌+◌};
+ghost use Rattle.std.specs.Prelude.{◌==◌, option_copied};
+ghost use Rattle.rdm_agent.specs.Machine.{fed};
 ghost use Rattle.rdm_agent.specs.Run.{heard_by, seen_op};
 ghost use Rattle.rdm_agent.specs.Calls.{next_op, fits, HasRunBy, AfterEach};
-ghost use Rattle.rdm_agent.specs.OpFrames.{op_frame};
 ghost use Rattle.rdm_agent.specs.declared.op.OpReply.{OpReply};
 ghost use Rattle.rdm_agent.specs.declared.op.Op.TheVariants.{End};
-ghost use Rattle.rdm_handles.specs.Forms.{search_of, kind_of, corrupt_uid, number_of_fault};
-ghost use Rattle.rdm_handles.specs.Packets.{first_of, frame_status};
-ghost use Rattle.rdm_handles.specs.Agents.{start_status, known_status, known_set, added_status};
-ghost use Rattle.rdm_handles.specs.Agents.{operation_status, operation_of, heard_of};
+ghost use Rattle.rdm_handles.specs.Forms.{search_of, kind_of};
+ghost use Rattle.rdm_handles.specs.Packets.{first_of};
+ghost use Rattle.rdm_handles.specs.Agents.{start_status, known_status, known_set, added_status, operation_status};
+ghost use Rattle.rdm_handles.specs.Agents.{operation_of, heard_of};
 ghost use Rattle.rdm_wire.specs.Uid.{with_uid};
 
-use crate::convert::{corrupt_uid, kind_of, number_of_fault, own_uid, search_of};
+use crate::convert::{kind_of, own_uid, search_of};
 use crate::discovery::Discovery;
 use crate::forms::StartForC;
-use crate::packets::put_frame;
-use crate::status::{BAD_KIND, BAD_SEARCH, DONE, HAS_ENDED, NOT_ENDED, NOTHING, TOO_MANY_DEVICES};
+use crate::status::{BAD_KIND, BAD_SEARCH, DONE, HAS_ENDED, TOO_MANY_DEVICES};
 use rdm_agent::{Agent, Op};
 use rdm_wire::{Uid, UidSet};
 
@@ -93,30 +91,8 @@ fn add_uid(set: &mut UidSet, number: u64) -> u32
     }
 }
 
-/// Writes what the run asks next, 0 for an unmute of all, 1 for a mute, 2 for a branch, and its frame at the front of a
-/// buffer of 257 bytes.
-pub fn next(discovery: &Discovery, operation: &mut u32, frame: &mut [u8], len: &mut usize) -> u32
-    ensures status { result ≡ first_of (operation_status (next_op discovery.now.agent))
-        (frame_status (length frame.old)) }
-    ensures frame { result ≡ DONE → take len.new frame.new
-        ≡ op_frame (next_op discovery.now.agent) discovery.now.source discovery.now.tn }
-    ensures operation { result ≡ DONE → operation.new ≡ operation_of (next_op discovery.now.agent) }
-    ensures unchanged { result ≢ DONE → (operation.new ≡ operation.old) × (len.new ≡ len.old)
-        × (frame.new ≡ frame.old) }
-{
-    let op = discovery.agent.next();
-    if op == Op::End {
-        return NOTHING;
-    }
-    let status = put_frame(frame, &op.frame(discovery.source, discovery.tn), len);
-    if status == DONE {
-        *operation = operation_of(&op);
-    }
-    status
-}
-
-// The number of an operation.
-fn operation_of(op: &Op) -> u32
+/// The number of an operation.
+pub fn operation_of(op: &Op) -> u32
     ensures { result ≡ operation_of op.now }
 {
     match op {
@@ -125,21 +101,6 @@ fn operation_of(op: &Op) -> u32
         Op::Branch(_) => 2,
         Op::End => 3,
     }
-}
-
-/// Takes the bytes that the line answered. No bytes are silence.
-pub fn hear_reply(discovery: &mut Discovery, reply: &[u8]) -> u32
-    ensures status { result ≡ (if operation_status (next_op discovery.old.agent) == 0 then DONE else HAS_ENDED) }
-    ensures heard { result ≡ DONE → discovery.new.agent ≡ heard_of discovery.old (Some reply.now) }
-    ensures has_run { result ≡ DONE → (heard : OpReply) × (fits heard (next_op discovery.old.agent) ≡ true)
-        × (discovery.new.agent ≡ fed discovery.old.agent (heard_by heard))
-        × AfterEach discovery.old.agent (λ run. HasRunBy run.search run.kind run.known run.budget false
-        (run.exchanges ++ seen_op (next_op discovery.old.agent, heard) ∷ []) discovery.new.agent) }
-    ensures numbers { result ≡ DONE → (discovery.new.tn ≡ (discovery.old.tn + 1) % 2 ^ 8)
-        × (discovery.new.source ≡ discovery.old.source) }
-    ensures unchanged { result ≢ DONE → discovery.new ≡ discovery.old }
-{
-    hear(discovery, Some(reply))
 }
 
 /// Takes the bytes that the line answered, or None if it failed.
@@ -161,20 +122,5 @@ pub fn hear(discovery: &mut Discovery, answer: Option<&[u8]>) -> u32
     let reply = op.read_reply(discovery.source, discovery.tn, answer);
     discovery.agent.hear(reply);
     discovery.tn = discovery.tn.wrapping_add(1);
-    DONE
-}
-
-/// Writes why the run ended early: the fault's number, or 0 if it has none, and the fault's UID, or 0.
-pub fn fault(discovery: &Discovery, fault: &mut u32, corrupt: &mut u64) -> u32
-    ensures status { result ≡ (if operation_status (next_op discovery.now.agent) == 0 then NOT_ENDED else DONE) }
-    ensures fault { result ≡ DONE → (fault.new ≡ number_of_fault (fault_of discovery.now.agent.phase))
-        × (corrupt.new ≡ corrupt_uid (fault_of discovery.now.agent.phase)) }
-    ensures unchanged { result ≢ DONE → (fault.new ≡ fault.old) × (corrupt.new ≡ corrupt.old) }
-{
-    if discovery.agent.next() != Op::End {
-        return NOT_ENDED;
-    }
-    *fault = number_of_fault(discovery.agent.fault());
-    *corrupt = corrupt_uid(discovery.agent.fault());
     DONE
 }

@@ -1,19 +1,21 @@
 //! The meaning of C's structs, and how they are written.
-ghost use Rattle.std.specs.Prelude.{◌≡◌, ◌≢◌, ◌≤◌, length, take, map, IfOk, IfErr, Some};
+ghost use Rattle.std.specs.Prelude.{◌≡◌, ◌≢◌, ◌≤◌, length, take, map, IfOk, IfErr, Some, if◌then◌else◌, nat_lt};
 ghost use Rattle.rdm_log.specs.log.Config.{IsConfig};
 ghost use Rattle.rdm_handles.specs.Forms.{setup_status, setup_of, search_of, uid_status, request_status, request_of};
 ghost use Rattle.rdm_handles.specs.Forms.{kind_of, number_of_ack, number_of_class, form_of_completion, form_of_end};
-ghost use Rattle.rdm_handles.specs.Forms.{form_of_device, number_or_0, number_of_fault, corrupt_uid};
-ghost use Rattle.rdm_handles.specs.Forms.{class_of, form_with_head, uid_of_fault};
+ghost use Rattle.rdm_handles.specs.Forms.{form_of_device, number_or_0, number_of_fault, corrupt_uid, class_of};
+ghost use Rattle.rdm_handles.specs.Forms.{form_with_head, uid_of_fault};
 ghost use Rattle.rdm_handles.specs.Answers.{join_fault_of, submit_fault_of};
 
 use crate::forms::{CompletionForC, DeviceForC, EndForC, RequestForC, SetupForC};
-use crate::status;
+use crate::status::{self, BUFFER_TOO_SMALL, DONE};
 use arrayvec::ArrayVec;
 use rdm_agent::{AgentFault, Kind, Search};
 use rdm_join::ReplyHead;
 use rdm_log::{Completion, Config, DiscoveryEnd, JoinFault, MOST_PLACES, Setup, WorkFault};
-use rdm_wire::{AckType, Device, MOST_PARAMETER_BYTES, ReqClass, Request, RespClass, Uid};
+use rdm_wire::{
+    AckType, Device, DeviceSet, MOST_PARAMETER_BYTES, ReqClass, Request, RespClass, Uid,
+};
 
 /// The UID with this number, which must be a device's or a controller's own.
 /// Err: its status.
@@ -312,4 +314,43 @@ pub fn put_uids(buffer: &mut [u64], uids: &[Uid])
     'copying: for i in 0..len {
         buffer[i] = uids[i].number();
     }
+}
+
+/// Writes devices at the front of a buffer, and how many there are; with `BUFFER_TOO_SMALL` only that.
+pub fn write_devices(set: &DeviceSet, devices: &mut [DeviceForC], count: &mut usize) -> u32
+    ensures count { count.new ≡ length set.now }
+    ensures status { result ≡ (if nat_lt (length devices.old) (length set.now) then BUFFER_TOO_SMALL else DONE) }
+    ensures written { result ≡ DONE → take count.new devices.new ≡ map form_of_device set.now }
+    ensures unchanged { result ≢ DONE → devices.new ≡ devices.old }
+{
+    *count = set.len();
+    if set.len() > devices.len() {
+        return BUFFER_TOO_SMALL;
+    }
+    put_devices(devices, set.as_slice());
+    DONE
+}
+
+/// Writes bad UIDs at the front of a buffer, how many there are, and whether there were more; with `BUFFER_TOO_SMALL`
+/// only how many.
+pub fn write_bad_uids(
+    uids: &[Uid],
+    has_more: bool,
+    buffer: &mut [u64],
+    count: &mut usize,
+    more: &mut bool,
+) -> u32
+    ensures count { count.new ≡ length uids.now }
+    ensures status { result ≡ (if nat_lt (length buffer.old) (length uids.now) then BUFFER_TOO_SMALL else DONE) }
+    ensures written { result ≡ DONE → take count.new buffer.new ≡ uids.now }
+    ensures more { result ≡ DONE → more.new ≡ has_more }
+    ensures unchanged { result ≢ DONE → (buffer.new ≡ buffer.old) × (more.new ≡ more.old) }
+{
+    *count = uids.len();
+    if uids.len() > buffer.len() {
+        return BUFFER_TOO_SMALL;
+    }
+    put_uids(buffer, uids);
+    *more = has_more;
+    DONE
 }

@@ -5,7 +5,6 @@
 #![tactic(auto)]
 
 pub mod agents;
-pub mod controllers;
 pub mod convert;
 mod discovery;
 pub mod entries;

@@ -1,11 +1,23 @@
+use Rattle.rdm_handles.proofs.Common.{arith, request_outcome}
+use Rattle.std.proofs.Common.{rules}
+use Rattle.rdm_log.specs.declared.outcome.OutcomeKind.TheVariants as kinds
+use Rattle.rdm_c.proofs.AnswerLemmas.{collects_shown, own_flag}
 use Rattle.rdm_c.proofs.controllers.wurst_controller_next_completion.Goals as goal
 
-pub returns-in-Some-clause-collected : goal.returns-in-Some-clause-collected
-returns-in-Some-clause-collected c done =
-    rw (
-      ← c.in-Some.ensures.some.1,
-      ← c.deref_mut-controller.ensures.value,
-      c.put.ensures.value,
-      c.deref_mut-controller.ensures.writes_back,
-    )
-    (c.next_completion-status.ensures.collected done)
+pub returns-after-from-client_count-clause-collected : goal.returns-after-from-client_count-clause-collected
+returns-after-from-client_count-clause-collected c done = elim c.if-from-client_count.branch [
+  | goal.then-from-client_count w ↦ absurd (omega (arith, done, w.status-is))
+  | goal.else-from-client_count+in-None-oldest w ↦ absurd (omega (arith, done, w.status-is))
+  | goal.else-from-client_count+in-Some-Discovery w ↦ absurd (omega (arith, done, w.status-is))
+  | goal.else-from-client_count+in-Some-Request+then-len-buffer w ↦ absurd (omega (arith, done, w.status-is))
+  | goal.else-from-client_count+in-Some-Request+else-len-buffer w ↦ (
+    w.in-Some-Request.number,
+    w.in-Some-Request.done.now,
+    rw w.completion-is
+        (own_flag w.in-Some-Request.number w.in-Some-Request.done.now _ _ w.completion_for_c.ensures),
+    rw (← c.in-Some.ensures.some.1, ← c.deref_mut-controller.ensures.value, c.put.ensures.value, w.boxed-is)
+        (collects_shown request_outcome kinds.Request _ _ _ _ _ w.next_completion.ensures.adds
+        w.next_completion.ensures.none (λ o h stands. search rules) (λ o h stands. search rules)),
+    search rules,
+  )
+]
