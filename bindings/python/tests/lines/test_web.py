@@ -469,20 +469,7 @@ class OtherViews(BrowserTestCase):
                        "each.textContent.includes('Back truss (454e:0a000017)'))")
             seen.button("Fixtures")
             seen.until("document.querySelector('.count')?.textContent === '4 found, 1 missing'")
-            # Its slot isn't free.
-            seen.button("Slots")
-            away = f"button.away[data-uid='{BACK}']"
-            seen.until(f"document.querySelector(\"{away}\")?.textContent === 'Back truss (missing)'")
-            self.assertIn("497 slots are free, 1 shared.", seen.texts("main p"))
-            seen.page.value(f"document.querySelector(\"{away}\").focus()")
-            seen.key("ArrowRight")
-            seen.page.value(f"document.querySelector(\"button[data-uid='{RIGHT}']\").focus()")
-            for key in ["ArrowDown"] * (12 if size == PHONE else 3) + ["ArrowLeft"] * 5:
-                seen.key(key)
-            self.assertIn("Front right: 8-14 → 99-105, overlaps “Back truss (missing)”. Enter asks; ",
-                          seen.texts(".hint")[0])
-            seen.key("Enter")
-            seen.until("document.querySelector('.message')?.innerText.includes('Back truss (missing) 100')")
+            self._find_slots_taken(seen, size)
             seen.button("Cancel")
             seen.button("Fixtures")
             seen.button("Remove from the list")
@@ -494,6 +481,22 @@ class OtherViews(BrowserTestCase):
                     # It has all of the phone's width, and isn't scrolled within the page.
                     seen.until("document.querySelector('iframe').offsetWidth === innerWidth")
                     self.assertGreater(seen.page.value("document.querySelector('iframe').offsetHeight"), 1_000)
+
+    def _find_slots_taken(self, seen: Window, size: Tuple[int, int]) -> None:
+        """The slots of a fixture that has gone aren't free."""
+        seen.button("Slots")
+        away = f"button.away[data-uid='{BACK}']"
+        seen.until(f"document.querySelector(\"{away}\")?.textContent === 'Back truss (missing)'")
+        self.assertIn("497 slots are free, 1 shared.", seen.texts("main p"))
+        seen.page.value(f"document.querySelector(\"{away}\").focus()")
+        seen.key("ArrowRight")
+        seen.page.value(f"document.querySelector(\"button[data-uid='{RIGHT}']\").focus()")
+        for key in ["ArrowDown"] * (12 if size == PHONE else 3) + ["ArrowLeft"] * 5:
+            seen.key(key)
+        self.assertIn("Front right: 8-14 → 99-105, overlaps “Back truss (missing)”. Enter asks; ",
+                      seen.texts(".hint")[0])
+        seen.key("Enter")
+        seen.until("document.querySelector('.message')?.innerText.includes('Back truss (missing) 100')")
 
     @at_each_size
     def test_who_broke_the_rules_and_who_is_missing(self, size: Tuple[int, int]) -> None:
