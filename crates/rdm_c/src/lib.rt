@@ -165,7 +165,7 @@ macro_rules! call_next_completion {
                     } else {
                         *$completion = completion_for_c(number, done, may_be_incomplete);
                         put_bytes($buffer, &done.bytes);
-                        drop($queue.next_completion(ClientId($client)));
+                        let _ = $queue.next_completion(ClientId($client));
                         DONE
                     }
                 }
@@ -190,7 +190,7 @@ macro_rules! call_next_discovery {
                     } else {
                         *$end = end_for_c(&end, set.len());
                         put_devices($devices, set.as_slice());
-                        drop($queue.next_discovery(ClientId($client), &mut DeviceSet::new()));
+                        let _ = $queue.next_discovery(ClientId($client), &mut DeviceSet::new());
                         DONE
                     }
                 }
