@@ -30,8 +30,8 @@ use Rattle.rdm_reports.specs.LogText.{call_members}
 use Rattle.rdm_reports.specs.LogText.{caller_member, owner_member, event_member, corrupt_member, fault_members}
 use Rattle.rdm_reports.specs.LogText.{entry_name, entry_members}
 use Rattle.rdm_findings.specs.Lines.{time_member}
-use Rattle.rdm_findings.specs.LineValues.{IsLong, IsUid, FitsRequest, FitsCall, FitsOwner, FitsEvent, FitsFault}
-use Rattle.rdm_findings.specs.LineValues.{FitsEntry}
+use Rattle.rdm_findings.specs.SameLines.{Has64Bits, Has48Bits, FitsRequest, FitsCall, FitsOwner, FitsEvent, FitsFault}
+use Rattle.rdm_findings.specs.SameLines.{FitsEntry}
 use Rattle.rdm_findings.proofs.PieceLemmas.{Ends, IsOwn, Owns, both, of, number, word, bytes, pair, uid}
 
 -- the third code of a text: the first letter of its first key
@@ -67,14 +67,14 @@ kind = record { own = one; ends = last }
     last Incremental r e = refl
 
 -- a request's class and target
-class : IsOwn (λ (p : ReqClass × ℕ). text_member (class_key p.0) (uid_text p.1)) (λ (p : ReqClass × ℕ). IsUid p.1)
+class : IsOwn (λ (p : ReqClass × ℕ). text_member (class_key p.0) (uid_text p.1)) (λ (p : ReqClass × ℕ). Has48Bits p.1)
 class = record {
   own = λ p q r s f g h e d.
       let x = one p.0 q.0 p.1 q.1 r s f g h e d in (ap₂ (λ (c : ReqClass) (u : ℕ). (c, u)) x.0 x.1, x.2);
   ends = λ p r e. refl;
 }
   where
-    one : (c d : ReqClass) (u v : ℕ) (r s : List ℕ) → IsUid u → IsUid v
+    one : (c d : ReqClass) (u v : ℕ) (r s : List ℕ) → Has48Bits u → Has48Bits v
         → text_member (class_key c) (uid_text u) ++ r ≡ text_member (class_key d) (uid_text v) ++ s → Ends r → Ends s
         → (c ≡ d) × (u ≡ v) × (r ≡ s)
     one Get Get u v r s f g h e i =
@@ -144,7 +144,7 @@ not_zero call r h = positive call (sym (call_begins call r) ∙ h)
     positive (calls.Join places) h = absurd (omega (arith, h))
     positive call h = absurd (omega (arith, h))
 
-own_caller : (c d : Option ClientId) (r s : List ℕ) → IfSome c (λ x. IsLong x.0) → IfSome d (λ x. IsLong x.0)
+own_caller : (c d : Option ClientId) (r s : List ℕ) → IfSome c (λ x. Has64Bits x.0) → IfSome d (λ x. Has64Bits x.0)
     → caller_member c ++ r ≡ caller_member d ++ s → Ends r → Ends s → (call_number r ≡ 0 → ⊥)
     → (call_number s ≡ 0 → ⊥) → (c ≡ d) × (r ≡ s)
 unfolding call_number
@@ -157,7 +157,7 @@ own_caller (Some c) (Some d) r s f g h e i p q =
 
 -- a call and its client
 call : IsOwn (λ (p : Option ClientId × Call). caller_member p.0 ++ call_members p.1)
-    (λ (p : Option ClientId × Call). IfSome p.0 (λ c. IsLong c.0) × FitsCall p.1)
+    (λ (p : Option ClientId × Call). IfSome p.0 (λ c. Has64Bits c.0) × FitsCall p.1)
 call = record {
   own = λ p q r s f g h e d.
       let one = own_caller p.0 q.0 (call_members p.1 ++ r) (call_members q.1 ++ s) f.0 g.0

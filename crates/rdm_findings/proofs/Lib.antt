@@ -3,6 +3,7 @@ mod MisreadLemmas
 mod StopLemmas
 mod TextLemmas
 mod EntryLemmas
+mod FitLemmas
 mod LineLemmas
 mod OpeningLemmas
 mod PieceLemmas

@@ -15,7 +15,7 @@ use Rattle.rdm_reports.specs.LogText.{number_member, text_member, bytes_member, 
 use Rattle.rdm_reports.specs.LogText.{entry_members}
 use Rattle.rdm_reports.specs.LogText.{operation_of, operation_text}
 use Rattle.rdm_findings.specs.Lines.{line_end, time_member, with_time, line_text, lines_text}
-use Rattle.rdm_findings.specs.LineValues.{IsLong, FitsLine, SaySame}
+use Rattle.rdm_findings.specs.SameLines.{Has64Bits, FitsLine, SaySame}
 use Rattle.rdm_findings.specs.Asked.{asks_from}
 use Rattle.rdm_findings.specs.Runs.{RunRead, ReadState, nothing_read, awaiting, reopens, ended, after_opening, read_on}
 use Rattle.rdm_findings.specs.Runs.{runs_of}
@@ -49,12 +49,13 @@ operation_is_word frame = by_byte (slice_get frame 22)
     by_byte (Some pid) = by_tests _ _
 
 own_time : (m n : ℕ) (r s : List ℕ) → number_member (codes "microseconds") m ++ 125 ∷ 10 ∷ r
-    ≡ number_member (codes "microseconds") n ++ 125 ∷ 10 ∷ s → IsLong m → IsLong n → (m ≡ n) × (r ≡ s)
+    ≡ number_member (codes "microseconds") n ++ 125 ∷ 10 ∷ s → Has64Bits m → Has64Bits n → (m ≡ n) × (r ≡ s)
 own_time m n r s h f g =
     let one = (number (codes "microseconds")).own m n (125 ∷ 10 ∷ r) (125 ∷ 10 ∷ s) f g h refl refl in
     (one.0, ap (drop 2) one.1)
 
-own_tail : (t u : Option ℕ) (r s : List ℕ) → IfSome t IsLong → IfSome u IsLong → tail t r ≡ tail u s → (t ≡ u) × (r ≡ s)
+own_tail : (t u : Option ℕ) (r s : List ℕ) → IfSome t Has64Bits → IfSome u Has64Bits → tail t r ≡ tail u s
+    → (t ≡ u) × (r ≡ s)
 own_tail None None r s f g h = (refl, ap (drop 2) h)
 own_tail (Some t) (Some u) r s f g h =
     let one = own_time _ _ r s h (omega arith) (omega arith) in

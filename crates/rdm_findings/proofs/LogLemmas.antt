@@ -1,17 +1,19 @@
 -- What is printed for a log, run by run and line by line.
 use Rattle.std.proofs.Common.{◌≡◌, ℕ, Bool, true, false, List, [], ◌∷◌, ◌++◌, refl, sym, ap, ◌∙◌, subst, append_assoc}
 use Rattle.std.proofs.Common.{append-nil, Option, true≢false}
-use Rattle.std.specs.Prelude.{◌+◌, ◌||◌, ◌&&◌, fold, length, if◌then◌else◌}
+use Rattle.std.specs.Prelude.{All, ◌+◌, ◌||◌, ◌&&◌, fold, length, if◌then◌else◌}
 use Rattle.std.specs.Io.KnownBytes.{Appends, Consumes}
 use Rattle.std.proofs.KnownBytes.{Appends-trans, Consumes-trans}
 use Rattle.std.proofs.lemmas.Grind.{flat_map-append}
 use Rattle.std.proofs.lemmas.List.{length-append}
+use Rattle.std.proofs.lemmas.List.Elements.{All-push}
 use Rattle.rdm_explain.specs.declared.exchange.Exchange.{Exchange}
 use Rattle.rdm_explain.specs.Exchanges.{seen_all}
 use Rattle.rdm_findings.specs.declared.form.Form.{Form}
 use Rattle.rdm_findings.specs.declared.head.RunHead.{RunHead}
 use Rattle.rdm_findings.specs.declared.line.LogLine.{LogLine}
 use Rattle.rdm_findings.specs.Explained.{IsExplained}
+use Rattle.rdm_findings.specs.SameLines.{FitsLine}
 use Rattle.rdm_findings.specs.Lines.{line_text, lines_text}
 use Rattle.rdm_findings.specs.Runs.{RunRead, ReadState, nothing_read, begins, ended, after_line, read_on, read_all}
 use Rattle.rdm_findings.specs.Runs.{runs_of}
@@ -108,6 +110,7 @@ any_ended false h run = refl
 pub record IsSoFar (form : Form) (present passing : List ℕ) (left now held writes : Option (List ℕ))
     (reading : ReadState) (any broken : Bool) (many : ℕ) : Type 0 where
   pub lines : List LogLine
+  pub fits : All FitsLine lines
   pub text : List ℕ
   pub consumed : Consumes left now (lines_text lines)
   pub reads : reading ≡ (read_all lines).1
@@ -129,6 +132,7 @@ pub nothing_more : (form : Form) (present passing : List ℕ) (left now later he
     → IsSoFar form present passing left later held writes reading any broken many
 nothing_more form present passing left now later held writes reading any broken many bytes f read none = record {
   lines = f.lines;
+  fits = f.fits;
   text = f.text;
   consumed = subst (λ l. Consumes left later l) (append-nil (lines_text f.lines))
       (more_consumed left now later (lines_text f.lines) [] f.consumed
@@ -160,15 +164,17 @@ runs_more form present passing left now held writes reading any broken breaks ma
 pub line_more : (form : Form) (present passing : List ℕ) (left now later held writes more : Option (List ℕ))
     (reading next : ReadState) (any some broken breaks either : Bool) (many : ℕ) (line : LogLine) (bytes : List ℕ)
     → IsSoFar form present passing left now held writes reading any broken many → Consumes now later bytes
-    → line_text line ≡ bytes → next ≡ after_line line reading → some ≡ any || (begins line reading && reading.has_run)
+    → line_text line ≡ bytes → FitsLine line → next ≡ after_line line reading
+    → some ≡ any || (begins line reading && reading.has_run)
     → either ≡ broken || breaks
     → (text : List ℕ)
     × AreExplained form any present passing (if begins line reading then ended reading else []) text breaks
     × Appends writes more text
     → IsSoFar form present passing left later held more next some either (many + 1)
 line_more form present passing left now later held writes more reading next any some broken breaks either many line
-    bytes f read is moves also both (own, said, written) = record {
+    bytes f read is fits moves also both (own, said, written) = record {
       lines = f.lines ++ line ∷ [];
+      fits = All-push FitsLine f.lines line f.fits fits;
       text = f.text ++ own;
       consumed = subst (λ l. Consumes left later l) (sym (lines_more f.lines line))
           (more_consumed left now later (lines_text f.lines) (line_text line) f.consumed
@@ -218,12 +224,13 @@ pub log_end : (form : Form) (present passing : List ℕ) (left now held writes m
     (reading : ReadState) (any broken breaks either : Bool) (many : ℕ)
     → IsSoFar form present passing left now held writes reading any broken many → either ≡ broken || breaks
     → (text : List ℕ) × EndsLog form present passing any (ended reading) text breaks × Appends writes more text
-    → (lines : List LogLine) × (text : List ℕ) × Consumes left now (lines_text lines)
+    → (lines : List LogLine) × (text : List ℕ) × All FitsLine lines × Consumes left now (lines_text lines)
     × IsLogText form present passing (runs_of lines) text either × Appends held more text
 log_end form present passing left now held writes more reading any broken breaks either many f both
     (own, said, written) = (
       f.lines,
       f.text ++ own,
+      f.fits,
       f.consumed,
       subst (λ b. IsLogText form present passing (runs_of f.lines) (f.text ++ own) b) (sym both)
           (all_explained form present passing left now held writes reading any broken breaks many own f said),

@@ -13,7 +13,7 @@ use Rattle.rdm_reports.specs.OpeningText.{binding_member}
 use Rattle.rdm_reports.specs.LogText.{number_member, kind_member}
 use Rattle.rdm_reports.specs.OpeningText.{client_members, found_members, next_members}
 use Rattle.rdm_reports.specs.OpeningText.{device_element, discovery_opening, session_opening}
-use Rattle.rdm_findings.specs.LineValues.{IsLong, IsUid, FitsDevice, FitsOpening, shown}
+use Rattle.rdm_findings.specs.SameLines.{Has64Bits, Has48Bits, FitsDevice, FitsOpening, shown}
 use Rattle.rdm_findings.specs.declared.line.DiscoveryOpening.{DiscoveryOpening}
 use Rattle.rdm_findings.specs.declared.line.SessionOpening.{SessionOpening}
 use Rattle.rdm_findings.proofs.PieceLemmas.{Ends, IsOwn, Owns, both, of, same_text, number, word, pair, uid, uids, list}
@@ -24,10 +24,10 @@ use Rattle.rdm_findings.proofs.EntryLemmas.{kind}
 abbrev first : List ℕ → ℕ
 first text = slice_index text 0
 
-binding : IsOwn (λ b. binding_member b ++ codes "}") (λ b. IfSome b IsUid)
+binding : IsOwn (λ b. binding_member b ++ codes "}") (λ b. IfSome b Has48Bits)
 binding = record { own = one; ends = last }
   where
-    one : Owns (λ b. binding_member b ++ codes "}") (λ b. IfSome b IsUid)
+    one : Owns (λ b. binding_member b ++ codes "}") (λ b. IfSome b Has48Bits)
     one None None r s f g h e d = (refl, ap (drop 1) h)
     one (Some u) (Some v) r s f g h e d =
         let x = (both (uid (codes "binding")) (same_text (codes "}") refl)).own (u, tt) (v, tt) r s (f, tt)
@@ -48,9 +48,9 @@ device =
 list_of_devices : (key : List ℕ) → IsOwn (list_member key device_element) (All FitsDevice)
 list_of_devices key = list key device_element FitsDevice device.own (λ d r s f e h. absurd (omega (arith, ap first h)))
 
-list_of_uids : (key : List ℕ) → IsOwn (list_member key uid_element) (All IsUid)
+list_of_uids : (key : List ℕ) → IsOwn (list_member key uid_element) (All Has48Bits)
 list_of_uids key =
-    list key uid_element IsUid (uids (codes "\"") refl).own (λ u r s f e h. absurd (omega (arith, ap first h)))
+    list key uid_element Has48Bits (uids (codes "\"") refl).own (λ u r s f e h. absurd (omega (arith, ap first h)))
 
 search : IsOwn search_member (λ a. Unit {0})
 search = record { own = one; ends = last }
@@ -85,13 +85,13 @@ truth key = record { own = one; ends = λ value r e. refl }
 -- the beginning of an opening: the controller
 pub opening : IsOwn (λ (p : Unit {0} × ((ℕ × ℕ) × Search)).
     codes "{\"entry\":\"opening\"" ++ controller_members p.1.0.0 p.1.0.1 p.1.1)
-    (λ (p : Unit {0} × ((ℕ × ℕ) × Search)). Unit {0} × ((IsUid p.1.0.0 × IsLong p.1.0.1) × Unit {0}))
+    (λ (p : Unit {0} × ((ℕ × ℕ) × Search)). Unit {0} × ((Has48Bits p.1.0.0 × Has64Bits p.1.0.1) × Unit {0}))
 opening =
     both (same_text (codes "{\"entry\":\"opening\"") refl)
     (both (both (uid (codes "source")) (number (codes "budget"))) search)
 
 pub discovery : IsOwn (λ (o : DiscoveryOpening). discovery_opening o.source o.search o.kind o.known o.budget)
-    (λ (o : DiscoveryOpening). IsUid o.source × All IsUid o.known × IsLong o.budget)
+    (λ (o : DiscoveryOpening). Has48Bits o.source × All Has48Bits o.known × Has64Bits o.budget)
 discovery =
     of (both (both (both opening kind) (list_of_uids (codes "known"))) (same_text (codes "}\n") refl))
     (λ p. record {
@@ -104,8 +104,9 @@ discovery =
     (λ (o : DiscoveryOpening). ((((tt, ((o.source, o.budget), o.search)), o.kind), o.known), tt)) (λ o. refl)
     (λ o f. ((((tt, ((f.0, f.2), tt)), tt), f.1), tt))
 
-pub own_session : (o p : SessionOpening) (r s : List ℕ) → FitsOpening o.opening → FitsOpening p.opening → IsLong o.first
-    → IsLong p.first → session_opening o.opening o.first ++ r ≡ session_opening p.opening p.first ++ s → Ends r → Ends s
+pub own_session : (o p : SessionOpening) (r s : List ℕ) → FitsOpening o.opening → FitsOpening p.opening
+    → Has64Bits o.first → Has64Bits p.first
+    → session_opening o.opening o.first ++ r ≡ session_opening p.opening p.first ++ s → Ends r → Ends s
     → (shown o ≡ shown p) × (r ≡ s)
 own_session o p r s f g m n h e d =
     let one = (both (both (both (both (both opening (both (both (number (codes "greatest"))
@@ -160,7 +161,7 @@ own_session o p r s f g m n h e d =
     }
 
 -- no text is of an opening of either kind
-pub other_opening : (o : DiscoveryOpening) (p : SessionOpening) (r s : List ℕ) → IsUid o.source → IsLong o.budget
+pub other_opening : (o : DiscoveryOpening) (p : SessionOpening) (r s : List ℕ) → Has48Bits o.source → Has64Bits o.budget
     → FitsOpening p.opening → discovery_opening o.source o.search o.kind o.known o.budget ++ r
     ≡ session_opening p.opening p.first ++ s → ⊥
 other_opening o p r s f g i h =

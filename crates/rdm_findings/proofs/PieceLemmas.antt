@@ -14,7 +14,7 @@ use Rattle.rdm_wire.proofs.BytesLemmas.{number_of-two_bytes, IsBytes-two_bytes}
 use Rattle.rdm_wire.proofs.UidLemmas.{uid_text_reads, text_once}
 use Rattle.hex.specs.Hex.{IsBytes, decode_of, encode_lower, encode_with, lower_digits}
 use Rattle.hex.proofs.HexLemmas.{decode_of-same, decode_of-encode_lower}
-use Rattle.rdm_findings.specs.LineValues.{IsLong, IsUid}
+use Rattle.rdm_findings.specs.SameLines.{Has64Bits, Has48Bits}
 use Rattle.rdm_reports.specs.SessionReport.{numbered}
 use Rattle.rdm_reports.specs.OpeningText.{element, list_start, list_member}
 use Rattle.rdm_reports.specs.LogText.{number_member, text_member, bytes_member}
@@ -87,7 +87,7 @@ uid_is_word u =
 pub one_uid : (u v : ℕ) → u < 2 ^ 48 → v < 2 ^ 48 → uid_text u ≡ uid_text v → u ≡ v
 one_uid u v f g h = text_once (uid_text u) u v (uid_text_reads u f) (rw h (uid_text_reads v g))
 
-own_decimal : (m n : ℕ) (r s : List ℕ) → IsLong m → IsLong n → decimal m ++ r ≡ decimal n ++ s → Ends r → Ends s
+own_decimal : (m n : ℕ) (r s : List ℕ) → Has64Bits m → Has64Bits n → decimal m ++ r ≡ decimal n ++ s → Ends r → Ends s
     → (m ≡ n) × (r ≡ s)
 own_decimal m n r s f g h e d =
     let one = own_word (decimal m) (decimal n) r s (number_is_word m f) (number_is_word n g) e d h in
@@ -140,7 +140,7 @@ same_text text starts = record {
 }
 
 -- a number after a text
-pub numbers : (start : List ℕ) → Starts start → IsOwn (λ n. start ++ decimal n) IsLong
+pub numbers : (start : List ℕ) → Starts start → IsOwn (λ n. start ++ decimal n) Has64Bits
 numbers start starts = record {
   own = λ m n r s f g h e d.
       own_decimal m n r s f g (append_cancel_left start _ _ (sym (append_assoc start (decimal m) r) ∙ h
@@ -164,7 +164,7 @@ quoted start text P starts words one = record {
     regroup a b r = simp append_assoc
 
 -- members with a number, a word, bytes, two bytes or a UID
-pub number : (key : List ℕ) → IsOwn (number_member key) IsLong
+pub number : (key : List ℕ) → IsOwn (number_member key) Has64Bits
 number key = numbers (codes ",\"" ++ key ++ codes "\":") refl
 
 pub word : (key : List ℕ) → IsOwn (text_member key) (λ text. is_word text ≡ true)
@@ -180,10 +180,10 @@ pair key =
     ∙ ap number_of (one_hex (two_bytes m) (two_bytes n) (IsBytes-two_bytes m) (IsBytes-two_bytes n) h)
     ∙ number_of-two_bytes n g)
 
-pub uids : (start : List ℕ) → Starts start → IsOwn (λ u. start ++ uid_text u ++ codes "\"") IsUid
-uids start starts = quoted start uid_text IsUid starts (λ u f. uid_is_word u) one_uid
+pub uids : (start : List ℕ) → Starts start → IsOwn (λ u. start ++ uid_text u ++ codes "\"") Has48Bits
+uids start starts = quoted start uid_text Has48Bits starts (λ u f. uid_is_word u) one_uid
 
-pub uid : (key : List ℕ) → IsOwn (λ u. text_member key (uid_text u)) IsUid
+pub uid : (key : List ℕ) → IsOwn (λ u. text_member key (uid_text u)) Has48Bits
 uid key = uids (codes ",\"" ++ key ++ codes "\":\"") refl
 
 -- the items after the first, and then the end of the list
@@ -257,8 +257,8 @@ list key text P o opens = record {
     regroup : (a b r : List ℕ) → ((a ++ b) ++ codes "]") ++ r ≡ a ++ (b ++ 93 ∷ r)
     regroup a b r = simp append_assoc
 
-pub list_of_numbers : (key : List ℕ) → IsOwn (list_member key decimal) (All IsLong)
+pub list_of_numbers : (key : List ℕ) → IsOwn (list_member key decimal) (All Has64Bits)
 list_of_numbers key =
-    list key decimal IsLong own_decimal (λ n r s f e h.
+    list key decimal Has64Bits own_decimal (λ n r s f e h.
     let one = own_word [] (decimal n) (93 ∷ s) r refl (number_is_word n f) refl e h in
     absurd (omega (arith, ap length one.0, decimal_nonempty n f)))

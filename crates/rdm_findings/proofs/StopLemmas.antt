@@ -4,11 +4,13 @@ use Rattle.std.proofs.Common.{append-nil, true, false, true≢false, Result, Ok,
 use Rattle.std.specs.Prelude.{◌+◌, ◌||◌, IsErrAnd, if◌then◌else◌}
 use Rattle.std.specs.Io.KnownBytes.{Appends, Consumes}
 use Rattle.std.proofs.KnownBytes.{Appends-trans}
+use Rattle.std.proofs.lemmas.List.Elements.{All-push}
 use Rattle.rdm_reports.proofs.WritingLemmas.{whole_then_cut}
 use Rattle.rdm_findings.specs.declared.form.Form.{Form}
 use Rattle.rdm_findings.specs.declared.line.LogLine.{LogLine}
 use Rattle.rdm_findings.specs.declared.log.LogFault.{LogFault}
 use Rattle.rdm_findings.specs.declared.log.LogFault.TheVariants.{Unread, Line, Unwritten, NoMemory}
+use Rattle.rdm_findings.specs.SameLines.{FitsLine}
 use Rattle.rdm_findings.specs.Lines.{line_text, lines_text}
 use Rattle.rdm_findings.specs.Logs.{AreExplained, EndsLog, IsCutBy, IsStopped}
 use Rattle.rdm_findings.specs.Runs.{RunRead, ReadState, begins, ended}
@@ -64,6 +66,7 @@ pub stopped_before : (form : Form) (present passing : List ℕ) (left now later 
     → IsStopped form present passing left later held writes fault
 stopped_before form present passing left now later held writes reading any broken many fault f refused = record {
   lines = f.lines;
+  fits = f.fits;
   rest = now;
   read = f.consumed;
   text = f.text;
@@ -77,13 +80,14 @@ stopped_before form present passing left now later held writes reading any broke
 pub stopped_after : (form : Form) (present passing : List ℕ) (left now later held writes more : Option (List ℕ))
     (reading : ReadState) (any broken : Bool) (many : ℕ) (line : LogLine) (bytes : List ℕ) (fault : LogFault)
     → IsSoFar form present passing left now held writes reading any broken many → Consumes now later bytes
-    → line_text line ≡ bytes → ((n : ℕ) → fault ≡ Line n → ⊥)
+    → line_text line ≡ bytes → FitsLine line → ((n : ℕ) → fault ≡ Line n → ⊥)
     → StopsAfter (AreExplained form any present passing (if begins line reading then ended reading else [])) writes more
     fault
     → IsStopped form present passing left later held more fault
 stopped_after form present passing left now later held writes more reading any broken many line bytes fault f read is
-    other (inl none) = record {
+    fits other (inl none) = record {
       lines = f.lines;
+      fits = f.fits;
       rest = now;
       read = f.consumed;
       text = f.text;
@@ -93,8 +97,9 @@ stopped_after form present passing left now later held writes more reading any b
       refused = λ n is. absurd (other n is);
     }
 stopped_after form present passing left now later held writes more reading any broken many line bytes fault f read is
-    other (inr (own, breaks, said, wrote)) = record {
+    fits other (inr (own, breaks, said, wrote)) = record {
       lines = f.lines ++ line ∷ [];
+      fits = All-push FitsLine f.lines line f.fits fits;
       rest = later;
       read = subst (λ l. Consumes left later l) (sym (lines_more f.lines line))
           (more_consumed left now later (lines_text f.lines) (line_text line) f.consumed
@@ -117,6 +122,7 @@ pub stopped_last : (form : Form) (present passing : List ℕ) (left now later he
 stopped_last form present passing left now later held writes more reading any broken many fault f other (inl none) =
     record {
       lines = f.lines;
+      fits = f.fits;
       rest = now;
       read = f.consumed;
       text = f.text;
@@ -128,6 +134,7 @@ stopped_last form present passing left now later held writes more reading any br
 stopped_last form present passing left now later held writes more reading any broken many fault f other
     (inr (own, breaks, said, wrote)) = record {
       lines = f.lines;
+      fits = f.fits;
       rest = now;
       read = f.consumed;
       text = f.text ++ own;

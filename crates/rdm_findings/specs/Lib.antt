@@ -1,5 +1,5 @@
 pub mod Lines
-pub mod LineValues
+pub mod SameLines
 pub mod Starts
 pub mod Flaws
 pub mod Asked

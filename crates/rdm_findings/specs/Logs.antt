@@ -1,6 +1,6 @@
 -- What is printed for a log.
 use Rattle.std.specs.Prelude.{◌≡◌, ◌⊎◌, ℕ, ◌+◌, Bool, true, false, ◌||◌, List, [], ◌∷◌, ◌++◌, Option, flat_map, length}
-use Rattle.std.specs.Prelude.{codes}
+use Rattle.std.specs.Prelude.{All, codes}
 use Rattle.std.specs.Io.KnownBytes.{Appends, Consumes}
 use Rattle.rdm_reports.specs.Writing.{IsCutShort}
 use Rattle.rdm_explain.specs.declared.exchange.Exchange.{Exchange}
@@ -14,6 +14,7 @@ use Rattle.rdm_findings.specs.declared.log.LogFault.TheVariants.{Line, Unwritten
 use Rattle.rdm_findings.specs.Explained.{IsExplained}
 use Rattle.rdm_findings.specs.FindingText.{uid_finding}
 use Rattle.rdm_findings.specs.Forms.{after_sentence, object_start, of_run}
+use Rattle.rdm_findings.specs.SameLines.{FitsLine}
 use Rattle.rdm_findings.specs.Lines.{lines_text}
 use Rattle.rdm_findings.specs.RunJson.{run_end}
 use Rattle.rdm_findings.specs.Runs.{RunRead, read_all, runs_of}
@@ -74,6 +75,7 @@ IsCutBy _ old new text = ⊥
 pub record IsStopped (form : Form) (present passing : List ℕ) (left now old new : Option (List ℕ)) (fault : LogFault)
     : Type 0 where
   pub lines : List LogLine
+  pub fits : All FitsLine lines
   pub rest : Option (List ℕ)
   pub read : Consumes left rest (lines_text lines)
   pub text : List ℕ

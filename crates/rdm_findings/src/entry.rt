@@ -1,4 +1,8 @@
 //! Reads the line of an entry.
+ghost use Rattle.std.specs.Prelude.{IfSome};
+ghost use Rattle.rdm_findings.specs.SameLines.{Has64Bits, FitsCall, FitsEntry, FitsEvent, FitsFault, FitsOwner};
+ghost use Rattle.rdm_findings.specs.SameLines.{FitsRequest};
+
 use crate::fields::{between, bytes, digits, has, medium, number, small, uid};
 use rdm_agent::{AgentFault, Kind};
 use rdm_join::{LineEvent, Status};
@@ -6,7 +10,9 @@ use rdm_log::{Call, Cause, ClientId, Entry, Owner};
 use rdm_wire::{ReqClass, Request};
 
 /// The entry that a line seems to have.
-pub(crate) fn entry(line: &str) -> Option<Entry> {
+pub(crate) fn entry(line: &str) -> Option<Entry>
+    ensures { IfSome result FitsEntry }
+{
     match between(line, "{\"entry\":\"", "\"")? {
         "join" => join(line),
         "refuse" => refuse(line),
@@ -24,18 +30,24 @@ pub(crate) fn entry(line: &str) -> Option<Entry> {
     }
 }
 
-fn client(line: &str) -> Option<ClientId> {
+fn client(line: &str) -> Option<ClientId>
+    ensures { IfSome result (λ c. Has64Bits c.0) }
+{
     Some(ClientId(small(line, "\"client\":")?))
 }
 
-fn join(line: &str) -> Option<Entry> {
+fn join(line: &str) -> Option<Entry>
+    ensures { IfSome result FitsEntry }
+{
     Some(Entry::Join {
         client: client(line)?,
         places: small(line, "\"places\":")?,
     })
 }
 
-fn refuse(line: &str) -> Option<Entry> {
+fn refuse(line: &str) -> Option<Entry>
+    ensures { IfSome result FitsEntry }
+{
     Some(Entry::Refuse {
         client: client(line),
         call: call(line)?,
@@ -43,7 +55,9 @@ fn refuse(line: &str) -> Option<Entry> {
     })
 }
 
-fn call(line: &str) -> Option<Call> {
+fn call(line: &str) -> Option<Call>
+    ensures { IfSome result FitsCall }
+{
     if has(line, "\"places\":") {
         Some(Call::Join(small(line, "\"places\":")?))
     } else if has(line, "\"discover\":") {
@@ -53,7 +67,9 @@ fn call(line: &str) -> Option<Call> {
     }
 }
 
-fn accept(line: &str) -> Option<Entry> {
+fn accept(line: &str) -> Option<Entry>
+    ensures { IfSome result FitsEntry }
+{
     Some(Entry::Accept {
         client: client(line)?,
         number: number(line, "\"number\":")?,
@@ -61,7 +77,9 @@ fn accept(line: &str) -> Option<Entry> {
     })
 }
 
-fn ask(line: &str) -> Option<Entry> {
+fn ask(line: &str) -> Option<Entry>
+    ensures { IfSome result FitsEntry }
+{
     Some(Entry::Ask {
         client: client(line)?,
         number: number(line, "\"number\":")?,
@@ -69,28 +87,36 @@ fn ask(line: &str) -> Option<Entry> {
     })
 }
 
-fn send(line: &str) -> Option<Entry> {
+fn send(line: &str) -> Option<Entry>
+    ensures { IfSome result FitsEntry }
+{
     Some(Entry::Send {
         owner: owner(line)?,
         frame: bytes(line, "\"frame\":\"")?,
     })
 }
 
-fn owner(line: &str) -> Option<Owner> {
+fn owner(line: &str) -> Option<Owner>
+    ensures { IfSome result FitsOwner }
+{
     match number(line, "\"run\":") {
         Some(run) => Some(Owner::Run(run)),
         None => Some(Owner::Request(number(line, "\"request\":")?)),
     }
 }
 
-fn came(line: &str) -> Option<Entry> {
+fn came(line: &str) -> Option<Entry>
+    ensures { IfSome result FitsEntry }
+{
     Some(Entry::Came {
         event: event(line)?,
     })
 }
 
 /// What came, by a line that has it.
-pub(crate) fn event(line: &str) -> Option<LineEvent> {
+pub(crate) fn event(line: &str) -> Option<LineEvent>
+    ensures { IfSome result FitsEvent }
+{
     if has(line, "\"failed\":") {
         Some(LineEvent::Failed)
     } else {
@@ -98,7 +124,9 @@ pub(crate) fn event(line: &str) -> Option<LineEvent> {
     }
 }
 
-fn finish(line: &str) -> Option<Entry> {
+fn finish(line: &str) -> Option<Entry>
+    ensures { IfSome result FitsEntry }
+{
     Some(Entry::Finish {
         number: number(line, "\"number\":")?,
         status: status(number(line, "\"status\":")?)?,
@@ -132,7 +160,9 @@ fn status(number: u64) -> Option<Status> {
     })
 }
 
-fn answer(line: &str) -> Option<Entry> {
+fn answer(line: &str) -> Option<Entry>
+    ensures { IfSome result FitsEntry }
+{
     let fault = if has(line, "\"fault\":") {
         Some(fault(line)?)
     } else {
@@ -145,7 +175,9 @@ fn answer(line: &str) -> Option<Entry> {
     })
 }
 
-fn fault(line: &str) -> Option<AgentFault> {
+fn fault(line: &str) -> Option<AgentFault>
+    ensures { IfSome result FitsFault }
+{
     match number(line, "\"fault\":")? {
         1 => Some(AgentFault::Corrupt(uid(line, "\"uid\":\"")?)),
         2 => Some(AgentFault::TooMany),
@@ -156,7 +188,9 @@ fn fault(line: &str) -> Option<AgentFault> {
     }
 }
 
-fn collect(line: &str) -> Option<Entry> {
+fn collect(line: &str) -> Option<Entry>
+    ensures { IfSome result FitsEntry }
+{
     Some(Entry::Collect {
         client: client(line)?,
     })
@@ -171,7 +205,9 @@ pub(crate) fn kind(line: &str) -> Option<Kind> {
     }
 }
 
-fn request(line: &str) -> Option<Request> {
+fn request(line: &str) -> Option<Request>
+    ensures { IfSome result FitsRequest }
+{
     let (class, target) = match uid(line, "\"get\":\"") {
         Some(target) => (ReqClass::Get, target),
         None => (ReqClass::Set, uid(line, "\"set\":\"")?),

@@ -3,6 +3,7 @@ ghost use Rattle.std.specs.Prelude.{◌≡◌, true, IfOk, IfSome, OnOk, Some};
 ghost use Rattle.rdm_wire.specs.Frames.{asked_in};
 ghost use Rattle.rdm_reports.specs.LogText.{entry_line, exchange_line};
 ghost use Rattle.rdm_reports.specs.OpeningText.{session_opening};
+ghost use Rattle.rdm_findings.specs.SameLines.{Has64Bits, FitsLine};
 ghost use Rattle.rdm_findings.specs.Lines.{line_text, with_time, is_sound, asks_discovery, is_asked, is_asked_by};
 
 use crate::fields::{bytes, has, number};
@@ -75,6 +76,7 @@ pub enum LogLine {
 /// a time, was found to have it. The only error: out of memory.
 pub fn read_line(alloc: Global, text: &[u8]) -> Result<Option<LogLine>, NoMemory>
     ensures text { IfOk result (λ found. IfSome found (λ line. line_text line ≡ text.now)) }
+    ensures fits { IfOk result (λ found. IfSome found FitsLine) }
     // Damage in a frame of a run is found by the frame's own checksum.
     ensures sound { IfOk result (λ found. IfSome found (λ line. is_sound line ≡ true)) }
 {
@@ -217,7 +219,9 @@ fn write_time(text: &mut Vec<u8>, time: u64) -> Result<(), AllocError>
 }
 
 // The line that a text seems to be.
-fn seeming_line(alloc: Global, text: &[u8]) -> Result<Option<LogLine>, NoMemory> {
+fn seeming_line(alloc: Global, text: &[u8]) -> Result<Option<LogLine>, NoMemory>
+    ensures { IfOk result (λ found. IfSome found FitsLine) }
+{
     let Ok(line) = str::from_utf8(text) else {
         return Ok(None);
     };
@@ -230,7 +234,9 @@ fn seeming_line(alloc: Global, text: &[u8]) -> Result<Option<LogLine>, NoMemory>
     }
 }
 
-fn seeming_opening(alloc: Global, line: &str) -> Result<Option<LogLine>, NoMemory> {
+fn seeming_opening(alloc: Global, line: &str) -> Result<Option<LogLine>, NoMemory>
+    ensures { IfOk result (λ found. IfSome found FitsLine) }
+{
     if has(line, "\"known\":") {
         let Some(found) = opening::discovery(line) else {
             return Ok(None);
@@ -250,14 +256,18 @@ fn seeming_opening(alloc: Global, line: &str) -> Result<Option<LogLine>, NoMemor
     }
 }
 
-fn entered(line: &str) -> Option<LogLine> {
+fn entered(line: &str) -> Option<LogLine>
+    ensures { IfSome result FitsLine }
+{
     Some(LogLine::Entered {
         entry: entry::entry(line)?,
         microseconds: microseconds(line),
     })
 }
 
-fn exchange(line: &str) -> Option<LogLine> {
+fn exchange(line: &str) -> Option<LogLine>
+    ensures { IfSome result FitsLine }
+{
     Some(LogLine::Exchanged {
         number: number(line, "\"number\":")?,
         frame: bytes(line, "\"frame\":\"")?,
@@ -267,6 +277,8 @@ fn exchange(line: &str) -> Option<LogLine> {
 }
 
 // The time of a line that has one.
-fn microseconds(line: &str) -> Option<u64> {
+fn microseconds(line: &str) -> Option<u64>
+    ensures { IfSome result Has64Bits }
+{
     number(line, "\"microseconds\":")
 }

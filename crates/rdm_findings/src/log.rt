@@ -1,8 +1,9 @@
 //! Explains a whole log, line by line.
 ghost use Rattle.std.specs.Prelude.{◌≡◌, ◌≢◌, ◌&&◌, ◌++◌, ◌+◌, ◌-◌, ◌<◌, ◌^◌, List, [], ℕ, IfOk, IfErr, OnOk, Err};
-ghost use Rattle.std.specs.Prelude.{false, flat_map, if◌then◌else◌};
+ghost use Rattle.std.specs.Prelude.{false, All, flat_map, if◌then◌else◌};
 ghost use Rattle.std.specs.Io.KnownBytes.{Appends, Consumes, IsAtEnd};
 ghost use Rattle.rdm_findings.specs.declared.line.LogLine.{LogLine};
+ghost use Rattle.rdm_findings.specs.SameLines.{FitsLine};
 ghost use Rattle.rdm_findings.specs.Lines.{line_text, lines_text};
 ghost use Rattle.rdm_findings.specs.Runs.{runs_of, begins, ended, after_line};
 ghost use Rattle.rdm_findings.specs.Logs.{AreExplained, IsLogText, EndsLog, IsStopped, unjudged_finding, no_run_text};
@@ -57,7 +58,7 @@ pub fn explain_log<R: Read, W: Write>(
     writer: &mut W,
 ) -> Result<bool, LogFault>
     ensures explained { IfOk result (λ broken. (lines : List LogLine) × (text : List ℕ)
-        × Consumes (R.remaining reader.old) (R.remaining reader.new) (lines_text lines)
+        × All FitsLine lines × Consumes (R.remaining reader.old) (R.remaining reader.new) (lines_text lines)
         × IsLogText form present.now passing.now (runs_of lines) text broken
         × Appends (W.contents writer.old) (W.contents writer.new) text) }
     ensures whole { OnOk result (IsAtEnd (R.remaining reader.new)) }
@@ -105,6 +106,7 @@ fn read_next<R: Read>(reader: &mut R, text: &mut Vec<u8>, number: u64) -> Result
 fn next_line(alloc: Global, text: &[u8], number: u64) -> Result<LogLine, LogFault>
     requires { number < 2 ^ 64 - 1 }
     ensures line { IfOk result (λ line. line_text line ≡ text.now) }
+    ensures fits { IfOk result FitsLine }
     ensures refused { (n : ℕ) → result ≡ Err (LogFault.Line n) → n ≡ number + 1 }
 {
     match read_line(alloc, text) {

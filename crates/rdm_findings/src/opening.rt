@@ -1,6 +1,7 @@
 //! Reads the line of an opening.
-ghost use Rattle.std.specs.Prelude.{◌≡◌, false, IfSome};
+ghost use Rattle.std.specs.Prelude.{◌≡◌, false, All, IfSome};
 ghost use Rattle.rdm_wire.specs.Uid.{is_broadcast};
+ghost use Rattle.rdm_findings.specs.SameLines.{Has64Bits, Has48Bits, FitsDevice, FitsOpening};
 
 use crate::entry::kind;
 use crate::fields::{between, digits, leading_number, medium, number, small, uid};
@@ -11,7 +12,9 @@ use rdm_log::{BrokenAnswers, MOST_CLIENTS, Opening};
 use rdm_wire::{Device, DeviceSet, Uid, UidSet};
 
 /// The opening of a discovery's log that a line seems to have.
-pub(crate) fn discovery(line: &str) -> Option<DiscoveryOpening> {
+pub(crate) fn discovery(line: &str) -> Option<DiscoveryOpening>
+    ensures { IfSome result (λ o. Has48Bits o.source × All Has48Bits o.known × Has64Bits o.budget) }
+{
     Some(DiscoveryOpening {
         source: uid(line, "\"source\":\"")?,
         search: search(line)?,
@@ -22,7 +25,9 @@ pub(crate) fn discovery(line: &str) -> Option<DiscoveryOpening> {
 }
 
 /// The opening of a session's log that a line seems to have.
-pub(crate) fn session(line: &str) -> Option<SessionOpening> {
+pub(crate) fn session(line: &str) -> Option<SessionOpening>
+    ensures { IfSome result (λ s. FitsOpening s.opening × Has64Bits s.first) }
+{
     Some(SessionOpening {
         opening: opening(line)?,
         first: number(line, "\"number\":")?,
@@ -37,7 +42,9 @@ fn search(line: &str) -> Option<Search> {
     }
 }
 
-fn opening(line: &str) -> Option<Opening> {
+fn opening(line: &str) -> Option<Opening>
+    ensures { IfSome result FitsOpening }
+{
     Some(Opening {
         source: uid(line, "\"source\":\"")?,
         greatest: medium(line, "\"greatest\":")?,
@@ -57,7 +64,9 @@ fn opening(line: &str) -> Option<Opening> {
 }
 
 // The UIDs of a list.
-fn known(list: &str) -> Option<UidSet> {
+fn known(list: &str) -> Option<UidSet>
+    ensures { IfSome result (All Has48Bits) }
+{
     let mut uids = UidSet::new();
     if list.is_empty() {
         return Some(uids);
@@ -72,7 +81,9 @@ fn known(list: &str) -> Option<UidSet> {
 }
 
 // The queue depths of a list.
-fn places(list: &str) -> Option<ArrayVec<u8, MOST_CLIENTS>> {
+fn places(list: &str) -> Option<ArrayVec<u8, MOST_CLIENTS>>
+    ensures { IfSome result (λ depths. All Has64Bits depths.items) }
+{
     let mut depths = ArrayVec::new();
     if list.is_empty() {
         return Some(depths);
@@ -86,7 +97,10 @@ fn places(list: &str) -> Option<ArrayVec<u8, MOST_CLIENTS>> {
 }
 
 // The devices of a list.
-fn devices(list: &str) -> Option<DeviceSet> {
+#[tactic(auto, using(crate::proofs::FitLemmas::more_fit))]
+fn devices(list: &str) -> Option<DeviceSet>
+    ensures { IfSome result (All FitsDevice) }
+{
     let mut devices = DeviceSet::new();
     for item in list.split('{') {
         if !item.is_empty() && devices.insert(device(item)?).is_err() {
@@ -97,7 +111,8 @@ fn devices(list: &str) -> Option<DeviceSet> {
 }
 
 fn device(item: &str) -> Option<Device>
-    ensures { IfSome result (λ d. is_broadcast d.uid ≡ false) }
+    ensures device { IfSome result (λ d. is_broadcast d.uid ≡ false) }
+    ensures fits { IfSome result FitsDevice }
 {
     let own = uid(item, "\"uid\":\"")?;
     if own.is_broadcast() {

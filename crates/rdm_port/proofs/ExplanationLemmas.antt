@@ -1,10 +1,11 @@
 -- What is printed of a log, one text after another.
 use Rattle.std.proofs.Common.{◌≡◌, ◌⊎◌, inl, inr, ℕ, Bool, false, List, [], ◌∷◌, ◌++◌, Option, Some, None, refl, sym}
-use Rattle.std.proofs.Common.{ap, subst, ◌∙◌, append_assoc, append-nil, length}
-use Rattle.std.specs.Prelude.{◌≢◌, ◌+◌, IfSome}
+use Rattle.std.proofs.Common.{ap, subst, ◌∙◌, append_assoc, append-nil, arith, length}
+use Rattle.std.specs.Prelude.{◌≢◌, ◌+◌, All, IfSome}
 use Rattle.std.specs.Io.KnownBytes.{Appends}
 use Rattle.std.proofs.KnownBytes.{Appends-trans, Keeps-refl}
 use Rattle.rdm_findings.specs.Document.{document_start, document_end, document_stop}
+use Rattle.rdm_findings.specs.SameLines.{FitsLine}
 use Rattle.rdm_findings.specs.Lines.{lines_text}
 use Rattle.rdm_findings.specs.Logs.{AreExplained, IsCutBy, IsLogText}
 use Rattle.rdm_findings.specs.Runs.{read_all, runs_of}
@@ -61,6 +62,7 @@ start_cut form present passing known old new cut =
       1,
       inr (record {
         lines = [];
+        fits = λ k line lt. absurd (omega (arith, lt));
         others = all.0;
         read = all.1;
         findings = [];
@@ -81,16 +83,18 @@ start_cut form present passing known old new cut =
 -- all of it was read and written, and then the end
 pub told_whole : (form : Form) (present passing : List ℕ) (known old mid more new : Option (List ℕ)) (start : List ℕ)
     (broken : Bool) (result : ℕ) → start ≡ document_start form passing → Appends old mid start
-    → (lines : List LogLine) × (findings : List ℕ) × IfSome known (λ bytes. bytes ≡ lines_text lines)
+    → (lines : List LogLine) × (findings : List ℕ) × All FitsLine lines
+    × IfSome known (λ bytes. bytes ≡ lines_text lines)
     × IsLogText form present passing (runs_of lines) findings broken × Appends mid more findings
     → IsPrinted more new (document_end form broken) (explain_status broken) result
     → IsTold form present passing known old new result
 told_whole form present passing known old mid more new start broken result is wrote
-    (lines, findings, all, said, written) printed = (
+    (lines, findings, fits, all, said, written) printed = (
       start ++ findings ++ document_end form broken,
       explain_status broken,
       inl (record {
         lines = lines;
+        fits = fits;
         all = all;
         findings = findings;
         broken = broken;
@@ -110,6 +114,7 @@ is_part : (form : Form) (present passing : List ℕ) (known was now : Option (Li
     → IsPartExplanation form present passing known (start ++ w.findings ++ document_stop form shown) 1
 is_part form present passing known was now start fault shown is w same = record {
   lines = w.lines;
+  fits = w.fits;
   others = w.others;
   read = w.read;
   findings = w.findings;

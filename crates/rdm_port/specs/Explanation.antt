@@ -1,6 +1,6 @@
 -- What is printed for a log, and for which devices.
 use Rattle.std.specs.Prelude.{◌≡◌, ◌⊎◌, ◌+◌, ◌<◌, ◌≤◌, ◌++◌, [], ℕ, Bool, false, not, List, Option, Some, None, ⊤}
-use Rattle.std.specs.Prelude.{filter, length, IfSome, if◌then◌else◌}
+use Rattle.std.specs.Prelude.{All, filter, length, IfSome, if◌then◌else◌}
 use Rattle.std.specs.Borrow.{Bor}
 use Rattle.clap.specs.Words.{Text}
 use Rattle.rdm_wire.specs.Uid.{has, set_of}
@@ -8,6 +8,7 @@ use Rattle.rdm_arguments.specs.declared.job.ExplainJob.{ExplainJob}
 use Rattle.rdm_files.specs.RigFiles.{IsRigFile}
 use Rattle.rdm_files.specs.declared.scene.rig.RigFile.{RigFile}
 use Rattle.rdm_findings.specs.Document.{document_start, document_end, document_stop}
+use Rattle.rdm_findings.specs.SameLines.{FitsLine}
 use Rattle.rdm_findings.specs.Lines.{lines_text}
 use Rattle.rdm_findings.specs.Logs.{AreExplained, IsLogText}
 use Rattle.rdm_findings.specs.Runs.{read_all, runs_of}
@@ -70,6 +71,7 @@ form_of json = if json then Json else Lines
 pub record IsExplanation (form : Form) (present passing : List ℕ) (known : Option (List ℕ)) (text : List ℕ)
     (status : ℕ) : Type 0 where
   pub lines : List LogLine
+  pub fits : All FitsLine lines
   pub all : IfSome known (λ bytes. bytes ≡ lines_text lines)
   pub findings : List ℕ
   pub broken : Bool
@@ -83,6 +85,7 @@ pub record IsExplanation (form : Form) (present passing : List ℕ) (known : Opt
 pub record IsPartExplanation (form : Form) (present passing : List ℕ) (known : Option (List ℕ)) (text : List ℕ)
     (status : ℕ) : Type 0 where
   pub lines : List LogLine
+  pub fits : All FitsLine lines
   pub others : List ℕ
   pub read : IfSome known (λ bytes. bytes ≡ lines_text lines ++ others)
   pub findings : List ℕ

@@ -1,9 +1,10 @@
 //! Answers the command that explains a log.
 ghost use Rattle.std.specs.Prelude.{◌≡◌, ◌⊎◌, ◌++◌, ◌≤◌, ℕ, List, IfOk, IfErr, OnOk, OnErr, IfSome, false, is_some};
-ghost use Rattle.std.specs.Prelude.{length};
+ghost use Rattle.std.specs.Prelude.{All, length};
 ghost use Rattle.std.specs.Io.KnownBytes.{Appends};
 ghost use Rattle.rdm_findings.specs.declared.line.LogLine.{LogLine};
 ghost use Rattle.rdm_findings.specs.Document.{document_start, document_stop};
+ghost use Rattle.rdm_findings.specs.SameLines.{FitsLine};
 ghost use Rattle.rdm_findings.specs.Lines.{lines_text};
 ghost use Rattle.rdm_findings.specs.Logs.{IsLogText};
 ghost use Rattle.rdm_findings.specs.Runs.{runs_of};
@@ -240,7 +241,7 @@ fn write_runs<R: Read, W: Write>(
     writer: &mut W,
 ) -> Result<bool, LogFault>
     ensures explained { IfOk result (λ broken. (lines : List LogLine) × (findings : List ℕ)
-        × IfSome (R.remaining reader.old) (λ bytes. bytes ≡ lines_text lines)
+        × All FitsLine lines × IfSome (R.remaining reader.old) (λ bytes. bytes ≡ lines_text lines)
         × IsLogText form devices.now.present.items devices.now.passing.items (runs_of lines) findings broken
         × Appends (W.contents writer.old) (W.contents writer.new) findings) }
     ensures stopped { IfErr result (WritesPart form devices.now.present.items devices.now.passing.items

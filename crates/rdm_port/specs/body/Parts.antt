@@ -1,6 +1,7 @@
 -- What is printed of a log that isn't explained to its end.
-use Rattle.std.specs.Prelude.{◌≡◌, ◌⊎◌, ◌+◌, ◌++◌, ℕ, Bool, false, List, Option, IfSome, ⊤, length}
+use Rattle.std.specs.Prelude.{◌≡◌, ◌⊎◌, ◌+◌, ◌++◌, ℕ, All, Bool, false, List, Option, IfSome, ⊤, length}
 use Rattle.std.specs.Io.KnownBytes.{Appends}
+use Rattle.rdm_findings.specs.SameLines.{FitsLine}
 use Rattle.rdm_findings.specs.Lines.{lines_text}
 use Rattle.rdm_findings.specs.Logs.{AreExplained, IsCutBy, IsLogText}
 use Rattle.rdm_findings.specs.Runs.{read_all, runs_of}
@@ -14,6 +15,7 @@ use Rattle.rdm_findings.specs.declared.log.LogFault.TheVariants.{Line, Unwritten
 pub record WritesPart (form : Form) (present passing : List ℕ) (known old new : Option (List ℕ)) (fault : LogFault)
     : Type 0 where
   pub lines : List LogLine
+  pub fits : All FitsLine lines
   pub others : List ℕ
   pub read : IfSome known (λ bytes. bytes ≡ lines_text lines ++ others)
   pub findings : List ℕ

@@ -1,4 +1,5 @@
-use Rattle.std.proofs.Common.{◌≡◌, [], ◌∙◌, ◌||◌, Err, inl, inr, sym, ap, arith}
+use Rattle.std.proofs.Common.{◌≡◌, [], ◌∙◌, ◌||◌, Err, inl, inr, refl, sym, ap, arith}
+use Rattle.std.proofs.KnownBytes.{Appends-nil, Consumes-nil}
 use Rattle.std.proofs.lemmas.Grind.{common_steps}
 use Rattle.std.proofs.lemmas.List.{nil_from_length}
 use Rattle.rdm_findings.proofs.LogLemmas.{nothing_more, line_more, log_end, either_broke, other_broke}
@@ -25,6 +26,19 @@ returns-then-is_empty-clause-explained g c =
     c.read_next.new.text.items c.lines.invariant c.in_ok-read_next.ensures.text none)
     either c.in_ok-breaks.ensures.explained
 
+pub lines-init : goal.lines-init
+lines-init g c = record {
+  lines = [];
+  fits = λ k line lt. absurd (omega (arith, lt));
+  text = [];
+  consumed = Consumes-nil (g.R.Read.remaining c.args.reader.now);
+  reads = c.new-reading.ensures;
+  explained = (refl, refl);
+  wrote = Appends-nil (g.W.Write.contents c.args.writer.now);
+  some = refl;
+  count = refl;
+}
+
 pub lines-preserved : goal.lines-preserved
 lines-preserved g c =
     let was = c.lines.broken in
@@ -42,7 +56,8 @@ lines-preserved g c =
     c.args.present.now c.args.passing.now _ _ _ _ _ _ c.lines.reading c.take_line.new.reading c.lines.any
     c.if-any.any was breaks c.if-broken-2.broken c.lines.number c.in_ok-line.line c.read_next.new.text.items
     c.lines.invariant c.in_ok-read_next.ensures.text (c.in_ok-line.ensures.line ∙ c.deref.ensures.value)
-    c.in_ok-take_line.ensures.taken (rw c.ends_run-ends.ensures at some) either c.in_ok-breaks-2.ensures.explained
+    c.in_ok-line.ensures.fits c.in_ok-take_line.ensures.taken (rw c.ends_run-ends.ensures at some) either
+    c.in_ok-breaks-2.ensures.explained
 
 pub returns-in_err-read_next-clause-stopped : goal.returns-in_err-read_next-clause-stopped
 returns-in_err-read_next-clause-stopped g c =
@@ -76,7 +91,8 @@ returns-in_err-breaks-2-clause-stopped g c =
     (stopped_after c.args.form c.args.present.now c.args.passing.now _ _ _ _ _ _ c.lines.reading c.lines.any
     c.lines.broken c.lines.number c.in_ok-line.line c.read_next.new.text.items _ c.lines.invariant
     c.in_ok-read_next.ensures.text (c.in_ok-line.ensures.line ∙ c.deref.ensures.value)
-    (λ n is. c.in_err-breaks-2.ensures.fault n (ap Err is)) c.in_err-breaks-2.ensures.stopped)
+    c.in_ok-line.ensures.fits (λ n is. c.in_err-breaks-2.ensures.fault n (ap Err is))
+    c.in_err-breaks-2.ensures.stopped)
 
 pub returns-in_err-take_line-clause-stopped : goal.returns-in_err-take_line-clause-stopped
 returns-in_err-take_line-clause-stopped g c =
@@ -85,4 +101,5 @@ returns-in_err-take_line-clause-stopped g c =
     (stopped_after c.args.form c.args.present.now c.args.passing.now _ _ _ _ _ _ c.lines.reading c.lines.any
     c.lines.broken c.lines.number c.in_ok-line.line c.read_next.new.text.items _ c.lines.invariant
     c.in_ok-read_next.ensures.text (c.in_ok-line.ensures.line ∙ c.deref.ensures.value)
-    (λ n is. c.in_err-take_line.ensures.fault n (ap Err is)) (inr (h.0, c.in_ok-breaks-2.breaks, h.1, inl h.2)))
+    c.in_ok-line.ensures.fits (λ n is. c.in_err-take_line.ensures.fault n (ap Err is))
+    (inr (h.0, c.in_ok-breaks-2.breaks, h.1, inl h.2)))

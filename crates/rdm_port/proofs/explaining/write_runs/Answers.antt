@@ -1,5 +1,5 @@
 use Rattle.std.proofs.Common.{◌≡◌, ◌++◌, ◌+◌, ◌∙◌, ◌⊎◌, ℕ, List, [], Option, Some, None, IfSome, ap, sym, append_assoc}
-use Rattle.std.proofs.Common.{length, subst, Bool, false, Result, Ok, Err, inl, refl}
+use Rattle.std.proofs.Common.{arith, length, subst, Bool, false, Result, Ok, Err, inl, refl}
 use Rattle.std.specs.Prelude.{◌==◌, if◌then◌else◌, IfErr}
 use Rattle.std.proofs.KnownBytes.{Appends-nil}
 use Rattle.std.specs.Io.KnownBytes.{Consumes, prepend_known}
@@ -26,6 +26,7 @@ part_of : (form : Form) (present passing : List ℕ) (known now old new : Option
 part_of form present passing known now old new fault s =
     let others = rest_of known s.rest (lines_text s.lines) s.read in record {
       lines = s.lines;
+      fits = s.fits;
       others = others.0;
       read = others.1;
       findings = s.text;
@@ -71,6 +72,7 @@ pub returns-in_default-clause-stopped : goal.returns-in_default-clause-stopped
 returns-in_default-clause-stopped g c =
     let all = bytes_of (g.R.Read.remaining c.args.reader.now) in record {
       lines = [];
+      fits = λ k line lt. absurd (omega (arith, lt));
       others = all.0;
       read = all.1;
       findings = [];
