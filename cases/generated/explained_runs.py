@@ -8,8 +8,7 @@ from __future__ import annotations
 from typing import Iterator, List, NamedTuple, Sequence
 
 from ..checker.case import Case
-from .runs import LIAR, UIDS, CommandClass, Pid, ResponseType, command_of, discovery, opening, session_opening
-from .runs import session_run, shows, shows_with_scene, uid_text
+from .runs import LIAR, discovery, opening, session_opening, session_run, shows, shows_with_scene
 
 # Each block has a name, a run, all that is printed of it, and the status. An empty line ends a block.
 #
@@ -489,57 +488,6 @@ discovery: full, steady, 13 exchanges, 1 device; no other device is on the line 
 """, 0),
 )
 
-# A mute of the liar, and bytes that don't acknowledge it. They are judged in the order of this table.
-SPARE = UIDS["spare"]
-MUTE = command_of(("mute", "liar"), 3)
-FINE = MUTE.answer(UIDS["liar"], ResponseType.ACK, bytes(2))
-NACK = MUTE.answer(UIDS["liar"], ResponseType.NACK_REASON, bytes(2))
-ENCODED = FINE.encode()
-FLAWS = (
-    ("they are too short for a response", ENCODED[:25]),
-    ("they don't begin with the start code", b"\xcd" + ENCODED[1:]),
-    ("their sub start code is wrong", ENCODED[:1] + b"\x02" + ENCODED[2:]),
-    ("their message length is wrong", ENCODED[:-1]),
-    ("their parameter data length is wrong", ENCODED[:23] + b"\x03" + ENCODED[24:]),
-    ("their checksum is wrong", ENCODED[:-1] + bytes([ENCODED[-1] ^ 1])),
-    ("their command class isn't that of a response", FINE._replace(command_class=CommandClass.DISCOVERY).encode()),
-    ("their response type is unknown", FINE._replace(port_or_type=4).encode()),
-    ("they answer another command", FINE._replace(pid=Pid.DISC_UN_MUTE).encode()),
-    ("they answer another command", FINE._replace(command_class=0x21).encode()),
-    ("they are from 1234:00000008", NACK._replace(source=SPARE).encode()),
-    ("they are for another controller", NACK._replace(destination=SPARE).encode()),
-    ("they have another transaction number", NACK._replace(transaction=4).encode()),
-    ("they are a NACK", NACK.encode()),
-    ("they are no ACK", FINE._replace(port_or_type=ResponseType.ACK_TIMER).encode()),
-    ("they are no ACK", FINE._replace(port_or_type=ResponseType.ACK_OVERFLOW).encode()),
-    ("they have neither 2 bytes of data nor 8", FINE._replace(data=bytes(3)).encode()),
-)
-FLAWED = """\
-discovery: {} exchanges, 0 devices; others may be on the line, or the log ends within the run
-exchange 3 mutes a UID that neither acknowledged nor was muted five times in a row: perhaps no device has it
-not settled: a device from 0000:00000000 up may be missing
-1234:00000009 didn't acknowledge a mute: take it off the line and discover again (exchange 3 has other bytes: \
-a rule was broken, by it, another device or noise)
-exchange 3{}: bytes came after a mute of 1234:00000009 that don't acknowledge it: {}; \
-a rule was broken, by a device or noise: take 1234:00000009 off the line and discover again; \
-if it isn't there, split the line
-"""
-
-# The mute is answered by another device.
-FROM_SPARE = FINE._replace(source=SPARE)
-SPARE_ANSWERS = """\
-discovery: 4 exchanges, 0 devices; others may be on the line, or the log ends within the run
-exchange 3 mutes a UID that neither acknowledged nor was muted five times in a row: perhaps no device has it
-not settled: a device from 0000:00000000 up may be missing
-1234:00000008 wasn't found yet; exchange 3 has its UID and an answer that wasn't due, perhaps another device's
-1234:00000009 didn't acknowledge a mute: take it off the line and discover again (exchange 3 has other bytes: \
-a rule was broken, by it, another device or noise)
-exchange 3: bytes came after a mute of 1234:00000009 that don't acknowledge it: they are from 1234:00000008; \
-a rule was broken, by a device or noise: take 1234:00000009 off the line and discover again; \
-if it isn't there, split the line
-"""
-
-
 class Block(NamedTuple):
     """What a table has of a case; the words of an opening only in some tables."""
 
@@ -578,9 +526,6 @@ def cases() -> Iterator[Case]:
     yield shows("the same without the scene", log, JUDGED, 3)
     for name, log, text, status in PASSES:
         yield shows_with_scene(name, log, LATE_SCENE, UNJUDGED_NEW + text, status)
-    yield from flawed()
-    run = f"3 unmute; mute liar > x{FROM_SPARE.encode().hex()}"
-    yield shows("a mute that another listed device answers", discovery(run), SPARE_ANSWERS, 3, [uid_text(SPARE), LIAR])
 
 
 def begun_before() -> Iterator[Case]:
@@ -589,12 +534,3 @@ def begun_before() -> Iterator[Case]:
     yield shows("a log from exchange 2", discovery(SILENCES, first=2), FROM_TWO, 3, [LIAR])
     yield shows("a log from within run 1", within + session_run(1, SILENCES), LATER, 3, [LIAR])
     yield shows("a log that may begin within run 1", session_run(1, SILENCES), UNKNOWN, 3, [LIAR])
-
-
-def flawed() -> Iterator[Case]:
-    """Mutes that aren't acknowledged, and why. Only the first one's flaw is told."""
-    for at, (flaw, reply) in enumerate(FLAWS):
-        run = f"3 unmute; mute liar > x{reply.hex()}"
-        yield shows(f"flaw {at}: {flaw}", discovery(run), FLAWED.format(4, "", flaw), 3, [LIAR])
-        yield shows(f"flaw {at}, and then noise: {flaw}", discovery(f"{run}; mute liar > noise"),
-                    FLAWED.format(5, " (and 1 more)", flaw), 3, [LIAR])

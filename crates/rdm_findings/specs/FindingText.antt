@@ -23,6 +23,8 @@ use Rattle.rdm_explain.specs.declared.exchange.Exchange.{Exchange}
 use Rattle.rdm_explain.specs.declared.rule.DeviceFinding.{DeviceFinding}
 use Rattle.rdm_explain.specs.declared.sighting.Sighting.{Sighting}
 use Rattle.rdm_explain.specs.Exchanges.{heard_of}
+use Rattle.rdm_findings.specs.declared.cause.Cause.{Cause}
+use Rattle.rdm_findings.specs.declared.cause.Cause.TheVariants as causes
 use Rattle.rdm_findings.specs.declared.flaw.Flaw.{Flaw}
 use Rattle.rdm_findings.specs.declared.head.RunHead.{RunHead}
 use Rattle.rdm_findings.specs.declared.head.Start.{Start}
@@ -370,14 +372,21 @@ unless_garbled None stray = stray
 unless_garbled (Some garbled) None = None
 unless_garbled (Some garbled) (Some s) = if s.at == garbled.at then None else Some s
 
--- what to do about bytes that no honest line allows, whichever devices are on it, after u was asked. A broadcast UID is
--- no device's, so no single one can be taken off the line. Nor can u, if no device has it
-abbrev pub each_text : ℕ → List ℕ
-each_text u =
-    if is_broadcast u then codes "; a rule was broken, by a device or noise: split the line and discover each half"
-    else
+-- who is probably to blame for bytes that no honest line allows, whichever devices are on it, after u was asked, and
+-- what to do. It can't be taken off the line if no device has it
+abbrev pub cause_text : Cause → ℕ → List ℕ
+cause_text causes.Noise u =
+    codes "; a rule was broken, probably by noise: " ++ uid_text u
+    ++ codes " isn't listed, and all listed devices were found; if it happens again, check the cable and its terminator"
+cause_text causes.Unclear u =
     codes "; a rule was broken, by a device or noise: take " ++ uid_text u
     ++ codes " off the line and discover again; if it isn't there, split the line"
+
+-- the same. A broadcast UID is no device's, so no single one can be taken off the line
+abbrev pub each_text : Cause → ℕ → List ℕ
+each_text cause u =
+    if is_broadcast u then codes "; a rule was broken, by a device or noise: split the line and discover each half"
+    else cause_text cause u
 
 -- which device to take off the line next
 abbrev pub then_text : ℕ → List ℕ
@@ -391,13 +400,13 @@ both_text u v =
     ++ (uid_text v ++ codes " off the line and discover again" ++ then_text u)
 
 -- what to do after a branch of u alone
-abbrev pub reply_text : ℕ → Heard → List ℕ
-reply_text u (One v) = if is_broadcast v then each_text u else both_text u v
-reply_text u _ = each_text u
+abbrev pub reply_text : Cause → ℕ → Heard → List ℕ
+reply_text cause u (One v) = if is_broadcast v then each_text cause u else both_text u v
+reply_text cause u _ = each_text cause u
 
 -- after a branch of u alone: bytes that aren't its text
-abbrev pub other_bytes : ℕ → Heard → List ℕ
-other_bytes u heard = codes " alone was asked, and bytes came that aren't its answer" ++ reply_text u heard
+abbrev pub other_bytes : Cause → ℕ → Heard → List ℕ
+other_bytes cause u heard = codes " alone was asked, and bytes came that aren't its answer" ++ reply_text cause u heard
 
 -- after a branch of u alone, its text: no device has such a UID, or it is muted. In that case another device may have
 -- sent its UID
@@ -418,9 +427,9 @@ abbrev pub same_text : ℕ → List ℕ
 same_text u = same_why u ++ off_advice u
 
 -- the same, or other bytes
-abbrev pub own_text : ℕ → Heard → List ℕ
-own_text u (Heard.One v) = if v == u then same_text u else other_bytes u (Heard.One v)
-own_text u heard = other_bytes u heard
+abbrev pub own_text : Cause → ℕ → Heard → List ℕ
+own_text cause u (Heard.One v) = if v == u then same_text u else other_bytes cause u (Heard.One v)
+own_text cause u heard = other_bytes cause u heard
 
 -- why they don't acknowledge a mute, if that is known
 abbrev pub why_text : Option Flaw → List ℕ
@@ -428,14 +437,15 @@ why_text None = []
 why_text (Some flaw) = codes ": " ++ flaw_text flaw
 
 -- bytes that don't acknowledge a mute of u
-abbrev pub unacked_text : ℕ → Option Flaw → List ℕ
-unacked_text u flaw = codes " that don't acknowledge it" ++ why_text flaw ++ each_text u
+abbrev pub unacked_text : Cause → ℕ → Option Flaw → List ℕ
+unacked_text cause u flaw = codes " that don't acknowledge it" ++ why_text flaw ++ each_text cause u
 
 -- about bytes that came after a branch of one UID alone and aren't its text, or after a mute and don't acknowledge it
-abbrev pub garbled_text : Option Flaw → Asked → Heard → List ℕ
-garbled_text flaw (Branch lo hi) heard = codes ": " ++ uid_text lo ++ own_text lo heard
-garbled_text flaw (Mute u) heard = codes ": bytes came after a mute of " ++ uid_text u ++ unacked_text u flaw
-garbled_text flaw _ heard = []
+abbrev pub garbled_text : Cause → Option Flaw → Asked → Heard → List ℕ
+garbled_text cause flaw (Branch lo hi) heard = codes ": " ++ uid_text lo ++ own_text cause lo heard
+garbled_text cause flaw (Mute u) heard =
+    codes ": bytes came after a mute of " ++ uid_text u ++ unacked_text cause u flaw
+garbled_text cause flaw _ heard = []
 
 -- the UID that was asked alone
 abbrev pub asked_uid : Asked → Option ℕ
@@ -448,16 +458,16 @@ abbrev pub of_garbled : ℕ → Asked → About
 of_garbled number asked = record { judgement = judged.Garbled; uid = asked_uid asked; exchange = Some number }
 
 -- the finding about such an exchange with this number, and so many after it
-abbrev pub garbled_found : Form → (number more : ℕ) → Option Flaw → Option Exchange → List ℕ
-garbled_found form number more flaw None = []
-garbled_found form number more flaw (Some e) =
-    finding form (of_garbled number e.asked) (sighting_name number more ++ garbled_text flaw e.asked e.heard)
+abbrev pub garbled_found : Form → (number more : ℕ) → Cause → Option Flaw → Option Exchange → List ℕ
+garbled_found form number more cause flaw None = []
+garbled_found form number more cause flaw (Some e) =
+    finding form (of_garbled number e.asked) (sighting_name number more ++ garbled_text cause flaw e.asked e.heard)
 
 -- the finding about the first such exchange, if there is one. If it is a mute, it is the first whose reply has a flaw
-abbrev pub garbled_finding : Form → Start → Option Flaw → List Exchange → Option Sighting → List ℕ
-garbled_finding form start flaw xs None = []
-garbled_finding form start flaw xs (Some s) =
-    garbled_found form (number_at start s.at) s.more flaw (slice_get xs s.at)
+abbrev pub garbled_finding : Form → Start → Cause → Option Flaw → List Exchange → Option Sighting → List ℕ
+garbled_finding form start cause flaw xs None = []
+garbled_finding form start cause flaw xs (Some s) =
+    garbled_found form (number_at start s.at) s.more cause flaw (slice_get xs s.at)
 
 -- whether bytes came
 abbrev pub is_loud : Heard → Bool

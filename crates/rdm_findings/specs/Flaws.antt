@@ -73,6 +73,22 @@ abbrev pub first_flaw : Option Flaw → ArrayVec ℕ → LineEvent → Option Fl
 first_flaw None frame event = flaw_of frame event
 first_flaw (Some flaw) frame event = Some flaw
 
+-- whether bytes don't even begin like a response
+abbrev pub is_formless : PacketFault → Bool
+is_formless packets.TooShort = true
+is_formless packets.WrongStart = true
+is_formless _ = false
+
+-- whether noise alone may have made bytes with this flaw
+abbrev pub is_noisy : Flaw → Bool
+is_noisy (flaws.Packet fault) = is_formless fault
+is_noisy _ = false
+
+-- the same of bytes after a branch, which have no flaw, or after a mute
+abbrev pub may_be_noise : Option Flaw → Bool
+may_be_noise None = true
+may_be_noise (Some flaw) = is_noisy flaw
+
 -- why bytes are no response
 abbrev pub packet_text : PacketFault → List ℕ
 packet_text packets.TooShort = codes "they are too short for a response"

@@ -7,6 +7,7 @@ ghost use Rattle.rdm_join.specs.Exchange.{seen_event};
 ghost use Rattle.rdm_explain.specs.Exchanges.{seen_of};
 ghost use Rattle.rdm_findings.specs.Flaws.{is_discovery, flaw_of_type, flaw_of_response, flaw_of_decoded, flaw_after};
 ghost use Rattle.rdm_findings.specs.Flaws.{flaw_of_broadcast, flaw_read, flaw_of, first_flaw, packet_text, flaw_text};
+ghost use Rattle.rdm_findings.specs.Flaws.{is_formless, is_noisy, may_be_noise};
 
 use crate::writing::{write, write_uid};
 use rdm_explain::{Asked, Exchange, Heard, read_exchange};
@@ -143,6 +144,35 @@ fn flaw_of_type(ack: AckType, length: usize) -> Option<Flaw>
         }
         AckType::Nack => Some(Flaw::Nack),
         _ => Some(Flaw::Type),
+    }
+}
+
+/// Whether noise alone may have made bytes after a branch, which have no flaw, or after a mute.
+pub(crate) fn may_be_noise(flaw: Option<Flaw>) -> bool
+    ensures { result ≡ may_be_noise flaw }
+{
+    match flaw {
+        Some(flaw) => is_noisy(flaw),
+        None => true,
+    }
+}
+
+fn is_noisy(flaw: Flaw) -> bool
+    ensures { result ≡ is_noisy flaw }
+{
+    match flaw {
+        Flaw::Packet(fault) => is_formless(fault),
+        _ => false,
+    }
+}
+
+// Whether bytes don't even begin like a response.
+fn is_formless(fault: PacketFault) -> bool
+    ensures { result ≡ is_formless fault }
+{
+    match fault {
+        PacketFault::TooShort | PacketFault::WrongStart => true,
+        _ => false,
     }
 }
 
