@@ -25,7 +25,7 @@ UNREAD = "exchange 7 mutes a UID that no earlier branch had read\n"
 # How a quick run goes on, and how it ends.
 GOES_ON = "0 devices; others may be on the line, or the log ends within the run\n"
 ENDS = """\
-fault 1 1234:00000008 (it alone was asked, and the answers weren't a new device's), 0 devices; \
+ended early at 1234:00000008 (it alone was asked, and the answers weren't a new device's), 0 devices; \
 others may be on the line
 """
 GARBLED = """\
@@ -86,7 +86,7 @@ FAILING = (
 )
 
 FAILED = """\
-run 1: full, 2 exchanges, fault 4 (the line failed), 0 devices; others may be on the line
+run 1: full, 2 exchanges, ended early (the line failed), 0 devices; others may be on the line
 exchange 2 should be one of the three unmutes that begin a run
 exchange 1 failed: check the adapter and the cable
 not settled: a device from 0000:00000000 up may be missing
@@ -130,10 +130,11 @@ GONE = "1234:00000001 was known, and wasn't found: the run ended before it was c
 
 # Those that ended, and all of them.
 ENDED = f"""\
-run 1: incremental, quick, 1 exchange, fault 3 (its budget of 384008 frames is used up), 0 devices; \
+run 1: incremental, quick, 1 exchange, ended early (its budget of 384008 frames is used up), 0 devices; \
 others may be on the line
 {GAPS}\
-run 2: full, quick, 1 exchange, fault 3 (its budget of 384008 frames is used up), 0 devices; others may be on the line
+run 2: full, quick, 1 exchange, ended early (its budget of 384008 frames is used up), 0 devices; \
+others may be on the line
 {GAPS}"""
 
 OF_KINDS = f"""\
@@ -142,33 +143,33 @@ run 3: incremental, quick, 1 exchange, 0 devices; others may be on the line, or 
 {GAPS}"""
 
 AFTER_WAITING = f"""\
-run 2: steady, 1 exchange, fault 3 (its budget of 384008 frames is used up), 0 devices; others may be on the line
+run 2: steady, 1 exchange, ended early (its budget of 384008 frames is used up), 0 devices; others may be on the line
 {GAPS}{GONE}\
-run 3: incremental, steady, 1 exchange, fault 3 (its budget of 384008 frames is used up), 0 devices; \
+run 3: incremental, steady, 1 exchange, ended early (its budget of 384008 frames is used up), 0 devices; \
 others may be on the line
 {GAPS}\
 1234:00000001 is known, but wasn't muted before the first branch
 {GONE}"""
 
 FROM_WITHIN = f"""\
-run 2: steady, 1 exchange, fault 3 (its budget of 384008 frames is used up), 0 devices; \
+run 2: steady, 1 exchange, ended early (its budget of 384008 frames is used up), 0 devices; \
 others may be on the line, as the log begins within the run; exchanges count from there
-run 3: incremental, steady, 1 exchange, fault 3 (its budget of 384008 frames is used up), 0 devices; \
+run 3: incremental, steady, 1 exchange, ended early (its budget of 384008 frames is used up), 0 devices; \
 others may be on the line
 {GAPS}\
 1234:00000001 is known, but wasn't muted before the first branch
 {GONE}"""
 
 UNOPENED = f"""\
-run 2: 1 exchange, fault 3 (its budget of frames is used up), 0 devices; \
+run 2: 1 exchange, ended early (its budget of frames is used up), 0 devices; \
 others may be on the line, as the log may begin within the run; exchanges count from there
-run 3: incremental, 1 exchange, fault 3 (its budget of frames is used up), 0 devices; others may be on the line
+run 3: incremental, 1 exchange, ended early (its budget of frames is used up), 0 devices; others may be on the line
 {GAPS}"""
 
 OF_THREE_RUNS = f"""\
 run 1: full, quick, 10 exchanges, no fault, 1 device; no other device is on the line if all follow the rules
 1234:00000001 was found, and followed the rules
-run 2: incremental, quick, 1 exchange, fault 3 (its budget of 384008 frames is used up), 0 devices; \
+run 2: incremental, quick, 1 exchange, ended early (its budget of 384008 frames is used up), 0 devices; \
 others may be on the line
 {GAPS}\
 1234:00000001 is known, but wasn't muted before the first branch
@@ -208,13 +209,13 @@ no other device is on the line if all follow the rules
 # After the answer of run 1 the log has all of run 2.
 ANSWERED = answer(0, 1) + ask(1, "incremental") + session_run(2, "unmute") + answer(1, 2, fault=3)
 AFTER_ANSWER = f"""\
-run 2: incremental, 1 exchange, fault 3 (its budget of frames is used up), 0 devices; others may be on the line
+run 2: incremental, 1 exchange, ended early (its budget of frames is used up), 0 devices; others may be on the line
 {GAPS}"""
 
 # 1,025 devices acknowledge mutes.
 TOO_MANY = FULL + discovery("3 unmute") + mutes(1025, first=3)
 CROWDED = """\
-discovery: full, steady, 1028 exchanges, fault 2 (more than 1,024 devices answered), 1024 devices; \
+discovery: full, steady, 1028 exchanges, ended early (more than 1,024 devices answered), 1024 devices; \
 others may be on the line
 1234:00000401 acknowledged a mute, but isn't reported: a run reports at most 1,024 devices
 not settled: a device from 0000:00000000 up may be missing

@@ -34,7 +34,7 @@ status 3
 
 other bytes from another UID alone, with which a run ends
 3 unmute; alone spare > noise
-4 exchanges, fault 1 1234:00000008 (it alone was asked, and the answers weren't a new device's), \
+4 exchanges, ended early at 1234:00000008 (it alone was asked, and the answers weren't a new device's), \
 0 devices, but 1 listed device wasn't found; others may be on the line
 not settled: a device from 0000:00000000 up may be missing
 1234:00000009 wasn't found: the run ended before it was clear whether it is there; it broke no rule until then
@@ -86,7 +86,7 @@ status 0
 
 the same and five mutes of it, with which a run ends
 3 unmute; alone spare > spare; 5 mute spare
-9 exchanges, fault 1 1234:00000008 (it alone was asked, and the answers weren't a new device's), \
+9 exchanges, ended early at 1234:00000008 (it alone was asked, and the answers weren't a new device's), \
 0 devices, but 1 listed device wasn't found; others may be on the line
 not settled: a device from 0000:00000000 up may be missing
 1234:00000009 wasn't found: the run ended before it was clear whether it is there; it broke no rule until then
@@ -106,7 +106,7 @@ status 0
 
 the same with other bytes after each mute
 3 unmute; alone spare > spare; 5 mute spare > noise
-9 exchanges, fault 1 1234:00000008 (it alone was asked, and the answers weren't a new device's), \
+9 exchanges, ended early at 1234:00000008 (it alone was asked, and the answers weren't a new device's), \
 0 devices, but 1 listed device wasn't found; others may be on the line
 not settled: a device from 0000:00000000 up may be missing
 1234:00000009 wasn't found: the run ended before it was clear whether it is there; it broke no rule until then
@@ -137,7 +137,7 @@ status 3
 
 a broadcast UID that answers alone
 3 unmute; alone nobody > nobody
-discovery: 4 exchanges, fault 1 ffff:ffffffff (it alone was asked, and the answers weren't a new device's), \
+discovery: 4 exchanges, ended early at ffff:ffffffff (it alone was asked, and the answers weren't a new device's), \
 0 devices, but 1 listed device wasn't found; others may be on the line
 not settled: a device from 0000:00000000 up may be missing
 1234:00000009 wasn't found: the run ended before it was clear whether it is there; it broke no rule until then
@@ -147,7 +147,7 @@ status 3
 
 other bytes from a broadcast UID alone
 3 unmute; alone nobody > noise
-discovery: 4 exchanges, fault 1 ffff:ffffffff (it alone was asked, and the answers weren't a new device's), \
+discovery: 4 exchanges, ended early at ffff:ffffffff (it alone was asked, and the answers weren't a new device's), \
 0 devices, but 1 listed device wasn't found; others may be on the line
 not settled: a device from 0000:00000000 up may be missing
 1234:00000009 wasn't found: the run ended before it was clear whether it is there; it broke no rule until then
@@ -165,7 +165,7 @@ status 0
 
 bytes of a device that stays unmuted, first where another one was due, and then from it alone
 3 unmute; all > liar; mute liar > ack; all > liar; mute spare > ack; 2 alone liar > liar
-discovery: 9 exchanges, fault 1 1234:00000009 (it alone was asked, and the answers weren't a new device's), \
+discovery: 9 exchanges, ended early at 1234:00000009 (it alone was asked, and the answers weren't a new device's), \
 2 devices; others may be on the line
 not settled: a device from 0000:00000000 up may be missing
 1234:00000008 was found, and followed the rules
@@ -176,7 +176,7 @@ status 3
 
 a device that answers alone, after an unmute and a mute that it didn't acknowledge
 3 unmute; mute liar > ack; unmute; mute liar; mute spare > ack; alone liar > liar
-discovery: 8 exchanges, fault 1 1234:00000009 (it alone was asked, and the answers weren't a new device's), \
+discovery: 8 exchanges, ended early at 1234:00000009 (it alone was asked, and the answers weren't a new device's), \
 2 devices; others may be on the line
 not settled: a device from 0000:00000000 up may be missing
 1234:00000008 was found, and followed the rules
@@ -194,7 +194,7 @@ status 0
 the same, and then its text
 3 unmute; mute liar > ack; unmute; mute liar; mute spare > ack; alone liar > liar; mute liar > ack; alone liar; \
 alone liar > liar
-discovery: 11 exchanges, fault 1 1234:00000009 (it alone was asked, and the answers weren't a new device's), \
+discovery: 11 exchanges, ended early at 1234:00000009 (it alone was asked, and the answers weren't a new device's), \
 2 devices; others may be on the line
 not settled: a device from 0000:00000000 up may be missing
 1234:00000008 was found, and followed the rules
@@ -256,7 +256,7 @@ status 0
 
 the same, and then noise from it alone
 3 unmute; all > noise; spare to liar > noise; mute liar; alone liar; alone liar > liar; 2 alone liar > noise
-discovery: 10 exchanges, fault 1 1234:00000009 (it alone was asked, and the answers weren't a new device's), \
+discovery: 10 exchanges, ended early at 1234:00000009 (it alone was asked, and the answers weren't a new device's), \
 0 devices, but 1 listed device wasn't found; others may be on the line
 exchange 5 mutes a UID that neither acknowledged nor was muted five times in a row: perhaps no device has it
 not settled: a device from 0000:00000000 up may be missing
@@ -287,7 +287,7 @@ status 3
 
 another UID's text from a broadcast UID alone
 3 unmute; alone nobody > spare
-discovery: 4 exchanges, fault 1 ffff:ffffffff (it alone was asked, and the answers weren't a new device's), \
+discovery: 4 exchanges, ended early at ffff:ffffffff (it alone was asked, and the answers weren't a new device's), \
 0 devices, but 1 listed device wasn't found; others may be on the line
 not settled: a device from 0000:00000000 up may be missing
 1234:00000009 wasn't found: the run ended before it was clear whether it is there; it broke no rule until then

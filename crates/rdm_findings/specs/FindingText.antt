@@ -12,7 +12,6 @@ use Rattle.rdm_agent.specs.declared.search.Search.{Search}
 use Rattle.rdm_agent.specs.declared.search.Search.TheVariants.{Steady, Quick}
 use Rattle.rdm_agent.specs.declared.fault.AgentFault.{AgentFault}
 use Rattle.rdm_agent.specs.declared.fault.AgentFault.TheVariants.{Corrupt, TooMany, Exhausted, LineFailed, Aborted}
-use Rattle.rdm_reports.specs.Report.{fault_text}
 use Rattle.rdm_explain.specs.declared.certificate.RunFinding.{RunFinding}
 use Rattle.rdm_explain.specs.declared.certificate.KnownFinding.{KnownFinding}
 use Rattle.rdm_explain.specs.declared.exchange.Asked.{Asked}
@@ -88,7 +87,7 @@ abbrev pub spent_text : Option ℕ → List ℕ
 spent_text None = codes " (its budget of frames is used up)"
 spent_text (Some budget) = codes " (its budget of " ++ count_text budget (codes " frame") ++ codes " is used up)"
 
--- what its fault says
+-- what its fault is, in words
 abbrev pub reason_text : Option ℕ → AgentFault → List ℕ
 reason_text budget (Corrupt u) = codes " (it alone was asked, and the answers weren't a new device's)"
 reason_text budget TooMany = codes " (more than 1,024 devices answered)"
@@ -96,11 +95,16 @@ reason_text budget Exhausted = spent_text budget
 reason_text budget LineFailed = codes " (the line failed)"
 reason_text budget Aborted = codes " (it was aborted)"
 
+-- that it ended early, and at which UID, if its answers ended it
+abbrev pub early_text : AgentFault → List ℕ
+early_text (Corrupt u) = codes "ended early at " ++ uid_text u
+early_text _ = codes "ended early"
+
 -- how it ended, if that is known
 abbrev pub end_text : Option ℕ → Option (Option AgentFault) → List ℕ
 end_text budget None = []
 end_text budget (Some None) = codes ", no fault"
-end_text budget (Some (Some fault)) = codes ", " ++ fault_text fault ++ reason_text budget fault
+end_text budget (Some (Some fault)) = codes ", " ++ early_text fault ++ reason_text budget fault
 
 -- a certificate of which no part fails but those that depend on known UIDs. It shows that no device is on the line but
 -- those that the run reports, unless one broke a rule
