@@ -31,7 +31,7 @@ others may be on the line
 GARBLED = """\
 exchange 3{}: 1234:00000008 alone was asked, and bytes came that aren't its answer; \
 a rule was broken, by a device or noise: take 1234:00000008 off the line and discover again; \
-if it isn't there, split the line
+if your rig has no such device, split the line
 """
 IGNORES = """\
 1234:00000008 answered alone and then acknowledged no mute: it left, or broke a rule; \
@@ -56,14 +56,14 @@ discovery: full, steady, 4 exchanges, 0 devices; others may be on the line, or t
 not settled: a device from 0000:00000000 up may be missing
 exchange 3: the UIDs from 0000:00000000 to ffff:ffffffff were asked, \
 and bytes came though no listed device was due; \
-they read as 1234:00000001, which isn't listed: name it by --present, if it is there
+they read as 1234:00000001, which isn't listed: name it by --present, if your rig has it
 """
 
 ALONE = """\
 discovery: 1 exchange, 0 devices; others may be on the line, as the log begins within the run
 exchange 3: the UIDs from 0000:00000000 to ffff:ffffffff were asked, \
 and bytes came though no listed device was due; \
-they read as 1234:00000001, which isn't listed: name it by --present, if it is there
+they read as 1234:00000001, which isn't listed: name it by --present, if your rig has it
 """
 
 CUT_BEFORE = """\
@@ -227,12 +227,13 @@ they may be noise, or those of a device that isn't listed
 
 # Quick runs in which several UIDs that aren't listed were answered wrongly when they were asked alone, or answered
 # alone and then no mute. The last one isn't the only one that is judged.
-ADVICE, SPLIT = "take it off the line and discover again", "if it isn't there, split the line"
+ADVICE, SPLIT = "take it off the line and discover again", "if your rig has no such device, split the line"
 WRONG = f"{{}} alone was asked, and bytes came that aren't its answer: {ADVICE}; {SPLIT} (exchange {{}})\n"
 NO_MUTE = f"{{}} answered alone and then acknowledged no mute: it left, or broke a rule; {ADVICE}\n"
 FIRST_WRONG = """\
 exchange {0} (and {1} more): {2} alone was asked, and bytes came that aren't its answer; \
-a rule was broken, by a device or noise: take {2} off the line and discover again; if it isn't there, split the line
+a rule was broken, by a device or noise: take {2} off the line and discover again; \
+if your rig has no such device, split the line
 """
 SPARE, NEW_ONE = "1234:00000008", "9abc:00000002"
 LIARS = (
@@ -296,10 +297,11 @@ JSON_WRONG = """{"passing":[],"runs":[{"exchanges":10,"kind":"full","search":"qu
 0 devices; others may be on the line, or the log ends within the run"},\
 {"judgement":"gap","uid":"0000:00000000","sentence":"not settled: a device from 0000:00000000 up may be missing"},\
 {"judgement":"garbled","uid":"1234:00000009","exchange":4,"sentence":"1234:00000009 alone was asked, and bytes came \
-that aren't its answer: take it off the line and discover again; if it isn't there, split the line (exchange 4)"},\
+that aren't its answer: take it off the line and discover again; if your rig has no such device, split the line \
+(exchange 4)"},\
 {"judgement":"garbled","uid":"1234:00000008","exchange":3,"sentence":"exchange 3 (and 1 more): 1234:00000008 alone \
 was asked, and bytes came that aren't its answer; a rule was broken, by a device or noise: take 1234:00000008 off the \
-line and discover again; if it isn't there, split the line"}]}],"broken":true}
+line and discover again; if your rig has no such device, split the line"}]}],"broken":true}
 """
 
 # 18 UIDs are answered wrongly. A run of this project sets at most 16 apart.

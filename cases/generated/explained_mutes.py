@@ -43,7 +43,7 @@ not settled: a device from 0000:00000000 up may be missing
 a rule was broken, by it, another device or noise)
 exchange 3{}: bytes came after a mute of 1234:00000009 that don't acknowledge it: {}; \
 a rule was broken, by a device or noise: take 1234:00000009 off the line and discover again; \
-if it isn't there, split the line
+if your rig has no such device, split the line
 """
 
 # The same after a mute of a UID that isn't listed, in a run that found the liar. Only the first two may be noise.
@@ -67,7 +67,7 @@ probably by noise: 1234:00000008 isn't listed, and all listed devices were found
 if it happens again, check the cable and its terminator"""
 UNCLEAR = """\
 by a device or noise: take 1234:00000008 off the line and discover again; \
-if it isn't there, split the line"""
+if your rig has no such device, split the line"""
 
 # The mute is answered by another device.
 FROM_SPARE = FINE._replace(source=SPARE)
@@ -80,7 +80,7 @@ not settled: a device from 0000:00000000 up may be missing
 a rule was broken, by it, another device or noise)
 exchange 3: bytes came after a mute of 1234:00000009 that don't acknowledge it: they are from 1234:00000008; \
 a rule was broken, by a device or noise: take 1234:00000009 off the line and discover again; \
-if it isn't there, split the line
+if your rig has no such device, split the line
 """
 
 # Bytes of a UID that isn't listed, in runs that found the liar.
@@ -102,7 +102,7 @@ the log doesn't have the run's kind
 1234:00000009 was found, and followed the rules
 exchange 5 (and 1 more): bytes came after a mute of 1234:00000008 that don't acknowledge it: \
 they are too short for a response; a rule was broken, by a device or noise: \
-take 1234:00000008 off the line and discover again; if it isn't there, split the line
+take 1234:00000008 off the line and discover again; if your rig has no such device, split the line
 status 3
 
 the same after a branch of that UID alone

@@ -40,7 +40,7 @@ not settled: a device from 0000:00000000 up may be missing
 1234:00000009 wasn't found: the run ended before it was clear whether it is there; it broke no rule until then
 exchange 3: 1234:00000008 alone was asked, and bytes came that aren't its answer; \
 a rule was broken, by a device or noise: take 1234:00000008 off the line and discover again; \
-if it isn't there, split the line
+if your rig has no such device, split the line
 status 3
 
 the same after a complete certificate, with which a run has ended without a fault
@@ -51,7 +51,7 @@ the log doesn't have the run's kind
 (exchange 7 is the fifth silence in a row in a range that holds it)
 exchange 8: 1234:00000008 alone was asked, and bytes came that aren't its answer; \
 a rule was broken, by a device or noise: take 1234:00000008 off the line and discover again; \
-if it isn't there, split the line
+if your rig has no such device, split the line
 status 3
 
 five mutes without an acknowledgement after a complete certificate
@@ -81,7 +81,7 @@ another UID's text from it alone, after which a run goes on
 not settled: a device from 0000:00000000 up may be missing
 1234:00000009 wasn't found yet; it followed the rules in the exchanges that the log has
 exchange 3: 1234:00000008 alone was asked, and bytes came though no listed device was due; \
-they read as 1234:00000008, which isn't listed: name it by --present, if it is there
+they read as 1234:00000008, which isn't listed: name it by --present, if your rig has it
 status 0
 
 the same and five mutes of it, with which a run ends
@@ -101,7 +101,7 @@ exchange 8 failed: check the adapter and the cable
 not settled: a device from 0000:00000000 up may be missing
 1234:00000009 wasn't found: exchange 8 failed before it was clear whether it is there; it broke no rule until then
 exchange 3: 1234:00000008 alone was asked, and bytes came though no listed device was due; \
-they read as 1234:00000008, which isn't listed: name it by --present, if it is there
+they read as 1234:00000008, which isn't listed: name it by --present, if your rig has it
 status 0
 
 the same with other bytes after each mute
@@ -113,7 +113,7 @@ not settled: a device from 0000:00000000 up may be missing
 1234:00000008 answered alone and then acknowledged no mute: a rule was broken, by it, another device or noise
 exchange 4 (and 4 more): bytes came after a mute of 1234:00000008 that don't acknowledge it: \
 they are too short for a response; a rule was broken, by a device or noise: \
-take 1234:00000008 off the line and discover again; if it isn't there, split the line
+take 1234:00000008 off the line and discover again; if your rig has no such device, split the line
 status 3
 """
 
@@ -229,7 +229,7 @@ not settled: a device from 0000:00000000 up may be missing
 a rule was broken, by it, another device or noise)
 exchange 3: bytes came after a mute of 1234:00000009 that don't acknowledge it: \
 they are too short for a response; a rule was broken, by a device or noise: \
-take 1234:00000009 off the line and discover again; if it isn't there, split the line
+take 1234:00000009 off the line and discover again; if your rig has no such device, split the line
 status 3
 
 the same, and other bytes after a mute of that UID
@@ -243,7 +243,7 @@ exchange 5: bytes came after a mute of 1234:00000008, which isn't listed; \
 they may be noise, or those of a device that isn't listed
 exchange 3 (and 1 more): bytes came after a mute of 1234:00000009 that don't acknowledge it: \
 they are too short for a response; a rule was broken, by a device or noise: \
-take 1234:00000009 off the line and discover again; if it isn't there, split the line
+take 1234:00000009 off the line and discover again; if your rig has no such device, split the line
 status 3
 
 noise from all UIDs and from two, and then the text of one from it alone
@@ -264,7 +264,7 @@ not settled: a device from 0000:00000000 up may be missing
 exchange 8 has its UID and an answer that wasn't due, perhaps another device's
 exchange 8 (and 1 more): 1234:00000009 alone was asked, and bytes came that aren't its answer; \
 a rule was broken, by a device or noise: take 1234:00000009 off the line and discover again; \
-if it isn't there, split the line
+if your rig has no such device, split the line
 status 3
 
 a mute that is lost, and one that is acknowledged
@@ -282,7 +282,7 @@ not settled: a device from 0000:00000000 up may be missing
 (exchange 5 has other bytes: a rule was broken, by it, another device or noise)
 exchange 5: bytes came after a mute of 1234:00000009 that don't acknowledge it: \
 they are too short for a response; a rule was broken, by a device or noise: \
-take 1234:00000009 off the line and discover again; if it isn't there, split the line
+take 1234:00000009 off the line and discover again; if your rig has no such device, split the line
 status 3
 
 another UID's text from a broadcast UID alone
@@ -303,7 +303,7 @@ not settled: a device from 0000:00000000 up may be missing
 (exchange 3 has other bytes: a rule was broken, by it, another device or noise)
 exchange 3: bytes came after a mute of 1234:00000009 that don't acknowledge it: \
 they are too short for a response; a rule was broken, by a device or noise: \
-take 1234:00000009 off the line and discover again; if it isn't there, split the line
+take 1234:00000009 off the line and discover again; if your rig has no such device, split the line
 status 3
 
 a device that is found, and silent after three more unmutes
@@ -322,7 +322,7 @@ not settled: a device from 0000:00000000 up may be missing
 1234:00000009 wasn't found yet; it followed the rules in the exchanges that the log has
 exchange 3 (and 1 more): bytes came after a mute of 1234:00000008 that don't acknowledge it: \
 they are too short for a response; a rule was broken, by a device or noise: \
-take 1234:00000008 off the line and discover again; if it isn't there, split the line
+take 1234:00000008 off the line and discover again; if your rig has no such device, split the line
 status 3
 
 another UID's text from a UID alone, after an exchange that failed

@@ -331,8 +331,8 @@ sign_text asked signs.Unread = []
 abbrev pub advice_text : Bool → Sign → List ℕ
 advice_text true (signs.Listed u) = codes ": take it off the line and discover again"
 advice_text false (signs.Listed u) = codes "; or another device sent them"
-advice_text true (signs.Other u) = codes "; a rule was broken: name it by --present, if it is there"
-advice_text false (signs.Other u) = codes ": name it by --present, if it is there"
+advice_text true (signs.Other u) = codes "; a rule was broken: name it by --present, if your rig has it"
+advice_text false (signs.Other u) = codes ": name it by --present, if your rig has it"
 advice_text true signs.Unread =
     codes "; a rule was broken: look for noise, a device that isn't listed, or one that should be silent there"
 advice_text false signs.Unread = codes "; they may be noise, or those of a device that isn't listed"
@@ -384,7 +384,7 @@ cause_text causes.Noise u =
     ++ codes " isn't listed, and all listed devices were found; if it happens again, check the cable and its terminator"
 cause_text causes.Unclear u =
     codes "; a rule was broken, by a device or noise: take " ++ uid_text u
-    ++ codes " off the line and discover again; if it isn't there, split the line"
+    ++ codes " off the line and discover again; if your rig has no such device, split the line"
 
 -- the same. A broadcast UID is no device's, so no single one can be taken off the line
 abbrev pub each_text : Cause → ℕ → List ℕ

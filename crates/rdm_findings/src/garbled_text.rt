@@ -258,13 +258,13 @@ const NOT_LISTED: &str =
 fn write_off(text: &mut Vec<u8>, uid: Uid) -> Result<(), AllocError>
     ensures { OnOk result (text.new.items ≡ text.old.items
         ++ (codes "; a rule was broken, by a device or noise: take " ++ uid_text uid
-        ++ codes " off the line and discover again; if it isn't there, split the line")) }
+        ++ codes " off the line and discover again; if your rig has no such device, split the line")) }
 {
     write(text, "; a rule was broken, by a device or noise: take ")?;
     write_uid(text, uid)?;
     write(
         text,
-        " off the line and discover again; if it isn't there, split the line",
+        " off the line and discover again; if your rig has no such device, split the line",
     )
 }
 

@@ -129,7 +129,7 @@ fn suspect_advice(uid: Uid) -> &'static str
     if uid.is_broadcast() {
         "split the line and discover each half"
     } else {
-        "take it off the line and discover again; if it isn't there, split the line"
+        "take it off the line and discover again; if your rig has no such device, split the line"
     }
 }
 

@@ -57,7 +57,7 @@ pub const LOG: Due<'static> = (
      not settled: a device from 0000:00000000 up may be missing\n\
      exchange 0: 0000:00000000 alone was asked, and bytes came that aren't its answer; \
      a rule was broken, by a device or noise: take 0000:00000000 off the line and discover again; \
-     if it isn't there, split the line\n",
+     if your rig has no such device, split the line\n",
     3,
 );
 
