@@ -111,7 +111,7 @@ end_text budget (Some (Some fault)) = codes ", " ++ early_text fault ++ reason_t
 abbrev pub sound_text : Option Kind → Option KnownFinding → List ℕ
 sound_text kind (Some names) =
     if is_known_complete names then codes "; no other device is on the line if all follow the rules"
-    else codes "; no other device is on the line if all follow the rules, but the run isn't regular"
+    else codes "; no other device is on the line if all follow the rules, but the run isn't regular: discover again"
 sound_text None None =
     codes "; no other device is on the line if all follow the rules; the log doesn't have the run's kind"
 sound_text (Some kind) None =

@@ -365,7 +365,7 @@ fn sound_text(kind: Option<Kind>, names: &Option<KnownFinding>) -> &'static str
             if is_known_complete(names) {
                 "; no other device is on the line if all follow the rules"
             } else {
-                "; no other device is on the line if all follow the rules, but the run isn't regular"
+                "; no other device is on the line if all follow the rules, but the run isn't regular: discover again"
             }
         }
         None => match kind {
