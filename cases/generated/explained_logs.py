@@ -28,9 +28,14 @@ ENDS = """\
 ended early at 1234:00000008 (it alone was asked, and the answers weren't a new device's), 0 devices; \
 others may be on the line
 """
-GARBLED = """\
-exchange 3{}: 1234:00000008 alone was asked, and bytes came that aren't its answer; \
-a rule was broken, by a device or noise: take 1234:00000008 off the line and discover again; \
+GARBLED = "exchange 3{}: 1234:00000008 alone was asked, and bytes came that aren't its answer; a rule was broken, "
+# Few bad answers may be noise, and five are rather the device's.
+FEW = f"""\
+{GARBLED}by a device or noise: take 1234:00000008 off the line and discover again; \
+if your rig has no such device, split the line
+"""
+OFTEN = f"""\
+{GARBLED}probably by 1234:00000008 or its wiring: take it off the line and discover again; \
 if your rig has no such device, split the line
 """
 IGNORES = """\
@@ -338,19 +343,26 @@ def quick_runs() -> Iterator[Case]:
 
     Mutes that aren't acknowledged may come between them, but no silence.
     """
-    for answers, count, more in (("alone spare > noise", 4, ""), ("7 alone spare > noise", 10, " (and 6 more)"),
-                                 ("4 alone spare > noise; alone spare; 4 alone spare > noise", 12, " (and 7 more)"),
-                                 ("4 alone spare > noise; all > noise; 4 alone spare > noise", 12, " (and 7 more)")):
+    for answers, count, said in (
+            ("alone spare > noise", 4, FEW.format("")), ("4 alone spare > noise", 7, FEW.format(" (and 3 more)")),
+            ("5 alone spare > noise", 8, OFTEN.format(" (and 4 more)")),
+            ("7 alone spare > noise", 10, OFTEN.format(" (and 6 more)")),
+            ("4 alone spare > noise; alone spare; 4 alone spare > noise", 12, OFTEN.format(" (and 7 more)")),
+            ("4 alone spare > noise; all > noise; 4 alone spare > noise", 12, OFTEN.format(" (and 7 more)"))):
         yield shows(f"a quick run that goes on: {answers}", QUICK + discovery(f"3 unmute; {answers}"),
-                    f"discovery: full, quick, {count} exchanges, {GOES_ON}{UNCOVERED}{GARBLED.format(more)}", 3)
+                    f"discovery: full, quick, {count} exchanges, {GOES_ON}{UNCOVERED}{said}", 3)
+    failing = "4 alone spare > noise; all > failed; 4 alone spare > noise"
+    yield shows("a quick run with bad answers before and after a failure", QUICK + discovery(f"3 unmute; {failing}"),
+                "discovery: full, quick, 12 exchanges, 0 devices; others may be on the line\n"
+                f"exchange 7 failed: check the adapter and the cable\n{UNCOVERED}{FEW.format(' (and 3 more)')}", 3)
     for answers, count in (8, 11), (9, 12):
         yield shows(f"a quick run that ends: {answers}", QUICK + discovery(f"3 unmute; {answers} alone spare > noise"),
                     f"discovery: full, quick, {count} exchanges, {ENDS}{UNCOVERED}"
-                    + GARBLED.format(f" (and {answers - 1} more)"), 3)
+                    + OFTEN.format(f" (and {answers - 1} more)"), 3)
     between = "4 alone spare > noise; mute spare > noise; 4 alone spare > noise"
     yield shows("a quick run that ends, with a mute between bad answers", QUICK + discovery(f"3 unmute; {between}"),
                 f"discovery: full, quick, 12 exchanges, {ENDS}{UNTRIED}{UNCOVERED}{UNREAD}"
-                + GARBLED.format(" (and 8 more)"), 3)
+                + OFTEN.format(" (and 8 more)"), 3)
     for name, liars, said in LIARS:
         yield shows(f"a quick run with {name}", QUICK + discovery(liars), f"discovery: full, quick, {said}", 3)
     yield shows("a quick run with 18 that are answered wrongly", MANY_WRONG, OF_MANY, 3)

@@ -5,7 +5,7 @@ use Rattle.std.specs.List.{position}
 use Rattle.rdm_wire.specs.Uid.{has}
 use Rattle.rdm_wire.specs.Devices.{uids_of}
 use Rattle.rdm_agent.specs.Run.{acked_in}
-use Rattle.rdm_agent.specs.declared.limits.TheConstants.{MOST_APART}
+use Rattle.rdm_agent.specs.declared.limits.TheConstants.{MOST_APART, TRIES}
 use Rattle.rdm_agent.specs.declared.kind.Kind.{Kind}
 use Rattle.rdm_agent.specs.declared.kind.Kind.TheVariants.{Full, Incremental}
 use Rattle.rdm_explain.specs.declared.certificate.KnownFinding.{KnownFinding}
@@ -28,7 +28,7 @@ use Rattle.rdm_findings.specs.declared.heard.RunUids.{RunUids}
 use Rattle.rdm_findings.specs.declared.mention.Mention.{Mention}
 use Rattle.rdm_findings.specs.declared.mention.RunFacts.{RunFacts}
 use Rattle.rdm_findings.specs.DeviceText.{device_finding, culprit_finding, suspect_finding, gone_finding}
-use Rattle.rdm_findings.specs.Ends.{is_complete, is_whole, decides_stray, unmuted_at}
+use Rattle.rdm_findings.specs.Ends.{is_complete, is_whole, decides_stray, unmuted_at, is_garbled_mute}
 use Rattle.rdm_findings.specs.FindingText.{head_finding, run_gaps, quiet_text, stray_finding, garbled_finding}
 use Rattle.rdm_findings.specs.FindingText.{unless_garbled, any_broke, answered_finding}
 use Rattle.rdm_findings.specs.Flaws.{may_be_noise}
@@ -190,12 +190,33 @@ abbrev pub is_calm : RunHead → List Exchange → Findings → Bool
 is_calm head xs f =
     decides_stray head f.certificate && (missing_in head xs f == 0) && is_only f.garbled && may_be_noise head.flaw
 
--- Who is probably to blame for the first bytes that no honest line allows. A device would have been found, or would
--- have sent other bytes again
+-- whether u was asked alone or muted, and bytes came that are no right answer
+abbrev pub is_bad_answer : ℕ → Exchange → Bool
+is_bad_answer u e = is_misread u e || is_garbled_mute u e
+
+-- how many of these exchanges are so, and n
+abbrev pub bad_after : ℕ → ℕ → List Exchange → ℕ
+bad_after u n xs = fold (λ n e. if is_bad_answer u e then n + 1 else n) n xs
+
+-- whether a line names a UID that had as many bad answers as a mute is tried, before an exchange failed
+abbrev pub is_stubborn : Option ℕ → List Exchange → Option Mention → Bool
+is_stubborn failure xs None = false
+is_stubborn failure xs (Some m) = nat_le TRIES (bad_after m.uid 0 (before_failure failure xs))
+
+-- who is to blame for other bytes than noise
+abbrev pub if_stubborn : Bool → Cause
+if_stubborn stubborn = if stubborn then causes.Device else causes.Unclear
+
+-- the same of bytes that a line names
+abbrev pub cause_by : RunHead → List Exchange → Findings → Option Mention → Cause
+cause_by head xs f mention =
+    if is_calm head xs f && is_nobody f mention then causes.Noise
+    else if_stubborn (is_stubborn f.certificate.failure xs mention)
+
+-- Who is probably to blame for the first bytes that no honest line allows. If it is noise, a device would have been
+-- found, or would have sent other bytes again. Noise seldom comes so often after one UID
 abbrev pub cause_of : RunHead → List Exchange → Findings → Cause
-cause_of head xs f =
-    if is_calm head xs f && is_nobody f (garbled_mention head.start head.flaw xs f.garbled) then causes.Noise
-    else causes.Unclear
+cause_of head xs f = cause_by head xs f (garbled_mention head.start head.flaw xs f.garbled)
 
 -- the findings about bytes
 abbrev pub bytes_text : Form → RunHead → List Exchange → Findings → List ℕ

@@ -382,6 +382,9 @@ abbrev pub cause_text : Cause → ℕ → List ℕ
 cause_text causes.Noise u =
     codes "; a rule was broken, probably by noise: " ++ uid_text u
     ++ codes " isn't listed, and all listed devices were found; if it happens again, check the cable and its terminator"
+cause_text causes.Device u =
+    codes "; a rule was broken, probably by " ++ uid_text u
+    ++ codes " or its wiring: take it off the line and discover again; if your rig has no such device, split the line"
 cause_text causes.Unclear u =
     codes "; a rule was broken, by a device or noise: take " ++ uid_text u
     ++ codes " off the line and discover again; if your rig has no such device, split the line"

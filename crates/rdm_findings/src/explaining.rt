@@ -8,10 +8,11 @@ ghost use Rattle.rdm_findings.specs.Explained.{first_of, ExplainsNames, Finds, g
 ghost use Rattle.rdm_findings.specs.Explained.{findings_text, IsExplained, shows_all, is_broken, stray_of, facts_of};
 ghost use Rattle.rdm_findings.specs.Explained.{devices_text, others_text, bytes_text, run_text};
 ghost use Rattle.rdm_findings.specs.Explained.{missing_after, missing_in};
-ghost use Rattle.rdm_findings.specs.Explained.{any_about, cause_of, is_calm, is_nobody, is_only};
+ghost use Rattle.rdm_findings.specs.Explained.{any_about, cause_by, cause_of, is_calm, is_nobody, is_only};
+ghost use Rattle.rdm_findings.specs.Explained.{if_stubborn, is_stubborn};
 ghost use Rattle.rdm_findings.specs.RunJson.{before_run, run_end};
 
-use crate::cause::Cause;
+use crate::cause::{Cause, if_stubborn, is_stubborn};
 use crate::device_text::write_devices;
 use crate::ending::{decides_stray, is_whole};
 use crate::flaw::may_be_noise;
@@ -370,10 +371,21 @@ fn cause_of(head: &RunHead, exchanges: &[Exchange], found: &Findings) -> Cause
     ensures { result ≡ cause_of head.now exchanges.now found.now }
 {
     let mention = garbled_mention(head.start, head.flaw, exchanges, found.garbled);
-    if is_calm(head, exchanges, found) && is_nobody(found, &mention) {
+    cause_by(head, exchanges, found, &mention)
+}
+
+fn cause_by(
+    head: &RunHead,
+    exchanges: &[Exchange],
+    found: &Findings,
+    mention: &Option<Mention>,
+) -> Cause
+    ensures { result ≡ cause_by head.now exchanges.now found.now mention.now }
+{
+    if is_calm(head, exchanges, found) && is_nobody(found, mention) {
         Cause::Noise
     } else {
-        Cause::Unclear
+        if_stubborn(is_stubborn(found.certificate.failure, exchanges, mention))
     }
 }
 

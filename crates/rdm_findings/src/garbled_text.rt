@@ -238,6 +238,7 @@ fn write_cause(text: &mut Vec<u8>, cause: Cause, uid: Uid) -> Result<(), AllocEr
 {
     match cause {
         Cause::Noise => write_noise(text, uid),
+        Cause::Device => write_device(text, uid),
         Cause::Unclear => write_off(text, uid),
     }
 }
@@ -254,6 +255,19 @@ fn write_noise(text: &mut Vec<u8>, uid: Uid) -> Result<(), AllocError>
 
 const NOT_LISTED: &str =
     " isn't listed, and all listed devices were found; if it happens again, check the cable and its terminator";
+
+fn write_device(text: &mut Vec<u8>, uid: Uid) -> Result<(), AllocError>
+    ensures { OnOk result (text.new.items ≡ text.old.items
+        ++ (codes "; a rule was broken, probably by " ++ uid_text uid ++ codes
+        " or its wiring: take it off the line and discover again; if your rig has no such device, split the line")) }
+{
+    write(text, "; a rule was broken, probably by ")?;
+    write_uid(text, uid)?;
+    write(text, OR_WIRING)
+}
+
+const OR_WIRING: &str =
+    " or its wiring: take it off the line and discover again; if your rig has no such device, split the line";
 
 fn write_off(text: &mut Vec<u8>, uid: Uid) -> Result<(), AllocError>
     ensures { OnOk result (text.new.items ≡ text.old.items
