@@ -28,7 +28,9 @@ ENDS = """\
 ended early at 1234:00000008 (it alone was asked, and the answers weren't a new device's), 0 devices; \
 others may be on the line
 """
-GARBLED = "exchange 3{}: 1234:00000008 alone was asked, and bytes came that aren't its answer; a rule was broken, "
+GARBLED = """\
+exchange 3{}: 1234:00000008 alone was asked, and bytes came that are no right answer: \
+they don't begin like a discovery reply; a rule was broken, """
 # Few bad answers may be noise, and five are rather the device's.
 FEW = f"""\
 {GARBLED}by a device or noise: take 1234:00000008 off the line and discover again; \
@@ -233,11 +235,12 @@ they may be noise, or those of a device that isn't listed
 # Quick runs in which several UIDs that aren't listed were answered wrongly when they were asked alone, or answered
 # alone and then no mute. The last one isn't the only one that is judged.
 ADVICE, SPLIT = "take it off the line and discover again", "if your rig has no such device, split the line"
-WRONG = f"{{}} alone was asked, and bytes came that aren't its answer: {ADVICE}; {SPLIT} (exchange {{}})\n"
+WRONG = f"{{}} alone was asked, and bytes came that are no right answer: {ADVICE}; {SPLIT} (exchange {{}})\n"
 NO_MUTE = f"{{}} answered alone and then acknowledged no mute: it left, or broke a rule; {ADVICE}\n"
 FIRST_WRONG = """\
-exchange {0} (and {1} more): {2} alone was asked, and bytes came that aren't its answer; \
-a rule was broken, by a device or noise: take {2} off the line and discover again; \
+exchange {0} (and {1} more): {2} alone was asked, and bytes came that are no right answer: \
+they don't begin like a discovery reply; a rule was broken, by a device or noise: \
+take {2} off the line and discover again; \
 if your rig has no such device, split the line
 """
 SPARE, NEW_ONE = "1234:00000008", "9abc:00000002"
@@ -266,7 +269,7 @@ LIARS = (
      "bytes came though no listed device was due; they may be noise, or those of a device that isn't listed\n"
      + FIRST_WRONG.format(4, 1, SPARE)),
     ("a broadcast UID that is answered wrongly", "3 unmute; alone spare > noise; alone nobody > noise; all",
-     f"6 exchanges, {GOES_ON}{UNCOVERED}ffff:ffffffff alone was asked, and bytes came that aren't its answer: "
+     f"6 exchanges, {GOES_ON}{UNCOVERED}ffff:ffffffff alone was asked, and bytes came that are no right answer: "
      "split the line and discover each half (exchange 4)\n" + FIRST_WRONG.format(3, 1, SPARE)),
     ("two that are answered wrongly, but have no device, as the certificate is complete",
      "3 unmute; alone spare > noise; alone liar > noise; 5 all",
@@ -302,11 +305,12 @@ JSON_WRONG = """{"passing":[],"runs":[{"exchanges":10,"kind":"full","search":"qu
 0 devices; others may be on the line, or the log ends within the run"},\
 {"judgement":"gap","uid":"0000:00000000","sentence":"not settled: a device from 0000:00000000 up may be missing"},\
 {"judgement":"garbled","uid":"1234:00000009","exchange":4,"sentence":"1234:00000009 alone was asked, and bytes came \
-that aren't its answer: take it off the line and discover again; if your rig has no such device, split the line \
+that are no right answer: take it off the line and discover again; if your rig has no such device, split the line \
 (exchange 4)"},\
 {"judgement":"garbled","uid":"1234:00000008","exchange":3,"sentence":"exchange 3 (and 1 more): 1234:00000008 alone \
-was asked, and bytes came that aren't its answer; a rule was broken, by a device or noise: take 1234:00000008 off the \
-line and discover again; if your rig has no such device, split the line"}]}],"broken":true}
+was asked, and bytes came that are no right answer: they don't begin like a discovery reply; a rule was broken, \
+by a device or noise: take 1234:00000008 off the line and discover again; if your rig has no such device, \
+split the line"}]}],"broken":true}
 """
 
 # 18 UIDs are answered wrongly. A run of this project sets at most 16 apart.

@@ -38,8 +38,9 @@ other bytes from another UID alone, with which a run ends
 0 devices, but 1 listed device wasn't found; others may be on the line
 not settled: a device from 0000:00000000 up may be missing
 1234:00000009 wasn't found: the run ended before it was clear whether it is there; it broke no rule until then
-exchange 3: 1234:00000008 alone was asked, and bytes came that aren't its answer; \
-a rule was broken, by a device or noise: take 1234:00000008 off the line and discover again; \
+exchange 3: 1234:00000008 alone was asked, and bytes came that are no right answer: \
+they don't begin like a discovery reply; a rule was broken, by a device or noise: \
+take 1234:00000008 off the line and discover again; \
 if your rig has no such device, split the line
 status 3
 
@@ -49,8 +50,9 @@ the same after a complete certificate, with which a run has ended without a faul
 the log doesn't have the run's kind
 1234:00000009 was never heard: check its power, its cable, its UID and that RDM is on \
 (exchange 7 is the fifth silence in a row in a range that holds it)
-exchange 8: 1234:00000008 alone was asked, and bytes came that aren't its answer; \
-a rule was broken, by a device or noise: take 1234:00000008 off the line and discover again; \
+exchange 8: 1234:00000008 alone was asked, and bytes came that are no right answer: \
+they don't begin like a discovery reply; a rule was broken, by a device or noise: \
+take 1234:00000008 off the line and discover again; \
 if your rig has no such device, split the line
 status 3
 
@@ -151,8 +153,8 @@ discovery: 4 exchanges, ended early at ffff:ffffffff (it alone was asked, and th
 0 devices, but 1 listed device wasn't found; others may be on the line
 not settled: a device from 0000:00000000 up may be missing
 1234:00000009 wasn't found: the run ended before it was clear whether it is there; it broke no rule until then
-exchange 3: ffff:ffffffff alone was asked, and bytes came that aren't its answer; \
-a rule was broken, by a device or noise: split the line and discover each half
+exchange 3: ffff:ffffffff alone was asked, and bytes came that are no right answer: \
+they don't begin like a discovery reply; a rule was broken, by a device or noise: split the line and discover each half
 status 3
 
 four silent mutes
@@ -262,8 +264,9 @@ exchange 5 mutes a UID that neither acknowledged nor was muted five times in a r
 not settled: a device from 0000:00000000 up may be missing
 1234:00000009 wasn't found: the run ended before it was clear whether it is there; \
 exchange 8 has its UID and an answer that wasn't due, perhaps another device's
-exchange 8 (and 1 more): 1234:00000009 alone was asked, and bytes came that aren't its answer; \
-a rule was broken, by a device or noise: take 1234:00000009 off the line and discover again; \
+exchange 8 (and 1 more): 1234:00000009 alone was asked, and bytes came that are no right answer: \
+they don't begin like a discovery reply; a rule was broken, by a device or noise: \
+take 1234:00000009 off the line and discover again; \
 if your rig has no such device, split the line
 status 3
 
@@ -291,7 +294,7 @@ discovery: 4 exchanges, ended early at ffff:ffffffff (it alone was asked, and th
 0 devices, but 1 listed device wasn't found; others may be on the line
 not settled: a device from 0000:00000000 up may be missing
 1234:00000009 wasn't found: the run ended before it was clear whether it is there; it broke no rule until then
-exchange 3: ffff:ffffffff alone was asked, and bytes came that aren't its answer; they read as 1234:00000008; \
+exchange 3: ffff:ffffffff alone was asked, and bytes came that are no right answer; they read as 1234:00000008; \
 a rule was broken, by a device or noise: take 1234:00000008 off the line and discover again
 status 3
 

@@ -232,7 +232,7 @@ suspect_advice u =
 -- what is said of such a UID, and of the exchange with this number
 abbrev pub suspect_text : ℕ → ℕ → List ℕ
 suspect_text u number =
-    codes " alone was asked, and bytes came that aren't its answer: " ++ suspect_advice u
+    codes " alone was asked, and bytes came that are no right answer: " ++ suspect_advice u
     ++ (codes " (exchange " ++ decimal number ++ codes ")")
 
 -- the finding about such a UID, if there is such an exchange

@@ -406,14 +406,24 @@ both_text u v =
     codes "; they read as " ++ uid_text v ++ codes "; a rule was broken, by a device or noise: take "
     ++ (uid_text v ++ codes " off the line and discover again" ++ then_text u)
 
+-- why bytes are no right answer, if that is known
+abbrev pub why_text : Option Flaw → List ℕ
+why_text None = []
+why_text (Some flaw) = codes ": " ++ flaw_text flaw
+
+-- the same, and what to do
+abbrev pub wrong_text : Cause → Option Flaw → ℕ → List ℕ
+wrong_text cause flaw u = why_text flaw ++ each_text cause u
+
 -- what to do after a branch of u alone
-abbrev pub reply_text : Cause → ℕ → Heard → List ℕ
-reply_text cause u (One v) = if is_broadcast v then each_text cause u else both_text u v
-reply_text cause u _ = each_text cause u
+abbrev pub reply_text : Cause → Option Flaw → ℕ → Heard → List ℕ
+reply_text cause flaw u (One v) = if is_broadcast v then each_text cause u else both_text u v
+reply_text cause flaw u _ = wrong_text cause flaw u
 
 -- after a branch of u alone: bytes that aren't its text
-abbrev pub other_bytes : Cause → ℕ → Heard → List ℕ
-other_bytes cause u heard = codes " alone was asked, and bytes came that aren't its answer" ++ reply_text cause u heard
+abbrev pub other_bytes : Cause → Option Flaw → ℕ → Heard → List ℕ
+other_bytes cause flaw u heard =
+    codes " alone was asked, and bytes came that are no right answer" ++ reply_text cause flaw u heard
 
 -- after a branch of u alone, its text: no device has such a UID, or it is muted. In that case another device may have
 -- sent its UID
@@ -434,22 +444,17 @@ abbrev pub same_text : ℕ → List ℕ
 same_text u = same_why u ++ off_advice u
 
 -- the same, or other bytes
-abbrev pub own_text : Cause → ℕ → Heard → List ℕ
-own_text cause u (Heard.One v) = if v == u then same_text u else other_bytes cause u (Heard.One v)
-own_text cause u heard = other_bytes cause u heard
-
--- why they don't acknowledge a mute, if that is known
-abbrev pub why_text : Option Flaw → List ℕ
-why_text None = []
-why_text (Some flaw) = codes ": " ++ flaw_text flaw
+abbrev pub own_text : Cause → Option Flaw → ℕ → Heard → List ℕ
+own_text cause flaw u (Heard.One v) = if v == u then same_text u else other_bytes cause flaw u (Heard.One v)
+own_text cause flaw u heard = other_bytes cause flaw u heard
 
 -- bytes that don't acknowledge a mute of u
 abbrev pub unacked_text : Cause → ℕ → Option Flaw → List ℕ
-unacked_text cause u flaw = codes " that don't acknowledge it" ++ why_text flaw ++ each_text cause u
+unacked_text cause u flaw = codes " that don't acknowledge it" ++ wrong_text cause flaw u
 
 -- about bytes that came after a branch of one UID alone and aren't its text, or after a mute and don't acknowledge it
 abbrev pub garbled_text : Cause → Option Flaw → Asked → Heard → List ℕ
-garbled_text cause flaw (Branch lo hi) heard = codes ": " ++ uid_text lo ++ own_text cause lo heard
+garbled_text cause flaw (Branch lo hi) heard = codes ": " ++ uid_text lo ++ own_text cause flaw lo heard
 garbled_text cause flaw (Mute u) heard =
     codes ": bytes came after a mute of " ++ uid_text u ++ unacked_text cause u flaw
 garbled_text cause flaw _ heard = []
@@ -470,7 +475,8 @@ garbled_found form number more cause flaw None = []
 garbled_found form number more cause flaw (Some e) =
     finding form (of_garbled number e.asked) (sighting_name number more ++ garbled_text cause flaw e.asked e.heard)
 
--- the finding about the first such exchange, if there is one. If it is a mute, it is the first whose reply has a flaw
+-- the finding about the first such exchange, if there is one. It is also the first whose reply has a flaw, unless its
+-- reply is the text of a UID
 abbrev pub garbled_finding : Form → Start → Cause → Option Flaw → List Exchange → Option Sighting → List ℕ
 garbled_finding form start cause flaw xs None = []
 garbled_finding form start cause flaw xs (Some s) =

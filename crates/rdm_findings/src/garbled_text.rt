@@ -3,7 +3,7 @@ ghost use Rattle.std.specs.Prelude.{◌≡◌, ◌++◌, OnOk, codes};
 ghost use Rattle.rdm_wire.specs.UidText.{uid_text};
 ghost use Rattle.rdm_findings.specs.FindingText.{sighting_name, cause_text, each_text, reply_text, garbled_text};
 ghost use Rattle.rdm_findings.specs.FindingText.{same_why, off_advice, same_text, own_text, other_bytes};
-ghost use Rattle.rdm_findings.specs.FindingText.{both_text, then_text, why_text, unacked_text};
+ghost use Rattle.rdm_findings.specs.FindingText.{both_text, then_text, why_text, unacked_text, wrong_text};
 ghost use Rattle.rdm_findings.specs.FindingText.{garbled_found, garbled_finding, asked_uid, of_garbled};
 ghost use Rattle.rdm_findings.specs.Forms.{finding};
 
@@ -98,28 +98,40 @@ fn write_reason(
     ensures { OnOk result (text.new.items ≡ text.old.items ++ garbled_text cause flaw asked.now heard.now) }
 {
     match asked {
-        Asked::Branch { lo, .. } => write_from(text, cause, *lo, heard),
+        Asked::Branch { lo, .. } => write_from(text, cause, flaw, *lo, heard),
         Asked::Mute(uid) => write_unmuted(text, cause, flaw, *uid),
         _ => Ok(()),
     }
 }
 
-fn write_from(text: &mut Vec<u8>, cause: Cause, uid: Uid, heard: &Heard) -> Result<(), AllocError>
+fn write_from(
+    text: &mut Vec<u8>,
+    cause: Cause,
+    flaw: Option<Flaw>,
+    uid: Uid,
+    heard: &Heard,
+) -> Result<(), AllocError>
     ensures { OnOk result (text.new.items ≡ text.old.items
-        ++ (codes ": " ++ uid_text uid ++ own_text cause uid heard.now)) }
+        ++ (codes ": " ++ uid_text uid ++ own_text cause flaw uid heard.now)) }
 {
     write(text, ": ")?;
     write_uid(text, uid)?;
-    write_own(text, cause, uid, heard)
+    write_own(text, cause, flaw, uid, heard)
 }
 
 // Its own text, or other bytes.
-fn write_own(text: &mut Vec<u8>, cause: Cause, uid: Uid, heard: &Heard) -> Result<(), AllocError>
-    ensures { OnOk result (text.new.items ≡ text.old.items ++ own_text cause uid heard.now) }
+fn write_own(
+    text: &mut Vec<u8>,
+    cause: Cause,
+    flaw: Option<Flaw>,
+    uid: Uid,
+    heard: &Heard,
+) -> Result<(), AllocError>
+    ensures { OnOk result (text.new.items ≡ text.old.items ++ own_text cause flaw uid heard.now) }
 {
     match heard {
         Heard::One(read) if *read == uid => write_same(text, uid),
-        _ => write_other_bytes(text, cause, uid, heard),
+        _ => write_other_bytes(text, cause, flaw, uid, heard),
     }
 }
 
@@ -175,8 +187,7 @@ fn write_unacked(
     ensures { OnOk result (text.new.items ≡ text.old.items ++ unacked_text cause uid flaw) }
 {
     write(text, " that don't acknowledge it")?;
-    write_why(text, flaw)?;
-    write_each(text, cause, uid)
+    write_wrong(text, cause, flaw, uid)
 }
 
 // Why they don't, if that is known.
@@ -195,26 +206,46 @@ fn write_why(text: &mut Vec<u8>, flaw: Option<Flaw>) -> Result<(), AllocError>
 fn write_other_bytes(
     text: &mut Vec<u8>,
     cause: Cause,
+    flaw: Option<Flaw>,
     uid: Uid,
     heard: &Heard,
 ) -> Result<(), AllocError>
-    ensures { OnOk result (text.new.items ≡ text.old.items ++ other_bytes cause uid heard.now) }
+    ensures { OnOk result (text.new.items ≡ text.old.items ++ other_bytes cause flaw uid heard.now) }
 {
     write(
         text,
-        " alone was asked, and bytes came that aren't its answer",
+        " alone was asked, and bytes came that are no right answer",
     )?;
-    write_reply(text, cause, uid, heard)
+    write_reply(text, cause, flaw, uid, heard)
 }
 
 // What the bytes read as after a branch of this UID, and what to do.
-fn write_reply(text: &mut Vec<u8>, cause: Cause, uid: Uid, heard: &Heard) -> Result<(), AllocError>
-    ensures { OnOk result (text.new.items ≡ text.old.items ++ reply_text cause uid heard.now) }
+fn write_reply(
+    text: &mut Vec<u8>,
+    cause: Cause,
+    flaw: Option<Flaw>,
+    uid: Uid,
+    heard: &Heard,
+) -> Result<(), AllocError>
+    ensures { OnOk result (text.new.items ≡ text.old.items ++ reply_text cause flaw uid heard.now) }
 {
     match heard {
-        Heard::One(read) => write_spelt(text, cause, uid, *read),
-        _ => write_each(text, cause, uid),
+        Heard::One(read) => write_spelt(text, cause, flaw, uid, *read),
+        _ => write_wrong(text, cause, flaw, uid),
     }
+}
+
+// Why the bytes are no right answer, and what to do.
+fn write_wrong(
+    text: &mut Vec<u8>,
+    cause: Cause,
+    flaw: Option<Flaw>,
+    uid: Uid,
+) -> Result<(), AllocError>
+    ensures { OnOk result (text.new.items ≡ text.old.items ++ wrong_text cause flaw uid) }
+{
+    write_why(text, flaw)?;
+    write_each(text, cause, uid)
 }
 
 // What to do, whatever the bytes are.
@@ -282,8 +313,14 @@ fn write_off(text: &mut Vec<u8>, uid: Uid) -> Result<(), AllocError>
     )
 }
 
-fn write_spelt(text: &mut Vec<u8>, cause: Cause, uid: Uid, read: Uid) -> Result<(), AllocError>
-    ensures { OnOk result (text.new.items ≡ text.old.items ++ reply_text cause uid (Heard.One read)) }
+fn write_spelt(
+    text: &mut Vec<u8>,
+    cause: Cause,
+    flaw: Option<Flaw>,
+    uid: Uid,
+    read: Uid,
+) -> Result<(), AllocError>
+    ensures { OnOk result (text.new.items ≡ text.old.items ++ reply_text cause flaw uid (Heard.One read)) }
 {
     if read.is_broadcast() {
         write_each(text, cause, uid)

@@ -117,7 +117,7 @@ fn write_wrong(text: &mut Vec<u8>, uid: Uid, number: u64) -> Result<(), AllocErr
 {
     write(
         text,
-        " alone was asked, and bytes came that aren't its answer: ",
+        " alone was asked, and bytes came that are no right answer: ",
     )?;
     write(text, suspect_advice(uid))?;
     write_place(text, number)

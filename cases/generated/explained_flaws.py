@@ -1,4 +1,4 @@
-"""What explain shows of bytes that don't acknowledge a mute: what is wrong with them, and who is probably to blame.
+"""What explain shows of bytes that no honest line allows: what is wrong with them, and who is probably to blame.
 
 The texts are those of Flaws.antt and FindingText.antt in crates/rdm_findings/specs.
 """
@@ -8,7 +8,8 @@ from typing import Iterator
 
 from ..checker.case import Case
 from .explained_runs import read
-from .runs import LIAR, UIDS, CommandClass, Pid, ResponseType, command_of, discovery, shows, uid_text
+from .runs import LIAR, UIDS, CommandClass, Pid, ResponseType, command_of, discovery, encode_branch_reply, shows
+from .runs import uid_text
 
 # A mute of the liar, and bytes that don't acknowledge it. They are judged in the order of this table.
 SPARE = UIDS["spare"]
@@ -83,6 +84,36 @@ a rule was broken, by a device or noise: take 1234:00000009 off the line and dis
 if your rig has no such device, split the line
 """
 
+# A branch of a UID alone, and bytes that are the text of none. After the preamble come aa, twelve bytes of the UID and
+# four of its checksum.
+TEXT = encode_branch_reply(SPARE)[-17:]
+BEGINS, SHORT = "they don't begin like a discovery reply", "they are too short for a discovery reply"
+TEXT_FLAWS = (
+    (BEGINS, b"\xfe" * 8 + TEXT), (BEGINS, b"\xfe" * 7), (BEGINS, b"\xfe" * 7 + b"\xab" + TEXT[1:]),
+    (BEGINS, TEXT[1:]), (SHORT, TEXT[:-1]), (SHORT, b"\xfe" * 7 + TEXT[:-1]), (SHORT, b"\xaa"),
+    ("their checksum is wrong", TEXT[:-1] + bytes([TEXT[-1] ^ 2])),
+    ("their checksum is wrong", b"\xfe" * 7 + TEXT[:1] + bytes([TEXT[1] ^ 0x10]) + TEXT[2:]),
+)
+MISREAD = """\
+discovery: {} exchanges, ended early at 1234:00000008 (it alone was asked, and the answers weren't a new device's), \
+0 devices, but 1 listed device wasn't found; others may be on the line
+{}not settled: a device from 0000:00000000 up may be missing
+1234:00000009 wasn't found: the run ended before it was clear whether it is there; it broke no rule until then
+{}a rule was broken, by a device or noise: take {} off the line and discover again{}
+"""
+NO_DEVICE = "; if your rig has no such device, split the line"
+# A mute of another UID, or the text of another UID, comes before bytes with a wrong checksum.
+WRONG_SUM = TEXT_FLAWS[-1][1].hex()
+AFTER_MUTE = MISREAD.format(
+    5, "exchange 3 mutes a UID that neither acknowledged nor was muted five times in a row: perhaps no device has it\n",
+    "1234:00000008 alone was asked, and bytes came that are no right answer: take it off the line and discover again"
+    f"{NO_DEVICE} (exchange 4)\n"
+    "exchange 3 (and 1 more): bytes came after a mute of 1234:00000001 that don't acknowledge it: "
+    "they are too short for a response; ", "1234:00000001", NO_DEVICE)
+AFTER_TEXT = MISREAD.format(
+    5, "", "exchange 3 (and 1 more): 1234:00000008 alone was asked, and bytes came that are no right answer; "
+    "they read as 1234:00000001; ", "1234:00000001", "; then 1234:00000008")
+
 # Bytes of a UID that isn't listed, in runs that found the liar.
 STRANGERS = """\
 bytes after one of five mutes of a UID that isn't listed, in a run that found all devices
@@ -110,9 +141,9 @@ the same after a branch of that UID alone
 discovery: 11 exchanges, 1 device; no other device is on the line if all follow the rules; \
 the log doesn't have the run's kind
 1234:00000009 was found, and followed the rules
-exchange 10: 1234:00000008 alone was asked, and bytes came that aren't its answer; \
-a rule was broken, probably by noise: 1234:00000008 isn't listed, and all listed devices were found; \
-if it happens again, check the cable and its terminator
+exchange 10: 1234:00000008 alone was asked, and bytes came that are no right answer: \
+they don't begin like a discovery reply; a rule was broken, probably by noise: \
+1234:00000008 isn't listed, and all listed devices were found; if it happens again, check the cable and its terminator
 status 3
 """
 
@@ -132,3 +163,14 @@ def cases() -> Iterator[Case]:
     yield shows("a mute that another listed device answers", discovery(run), SPARE_ANSWERS, 3, [uid_text(SPARE), LIAR])
     for it in read(STRANGERS):
         yield shows(it.name, discovery(it.run), it.text, it.status, [LIAR])
+    for at, (flaw, reply) in enumerate(TEXT_FLAWS):
+        run = f"3 unmute; alone spare > x{reply.hex()}"
+        said = f"exchange 3{{}}: 1234:00000008 alone was asked, and bytes came that are no right answer: {flaw}; "
+        yield shows(f"a flaw of a text, {at}: {flaw}", discovery(run),
+                    MISREAD.format(4, "", said.format(""), "1234:00000008", NO_DEVICE), 3, [LIAR])
+        text = MISREAD.format(5, "", said.format(" (and 1 more)"), "1234:00000008", NO_DEVICE)
+        yield shows(f"the same {at}, and then noise", discovery(f"{run}; alone spare > noise"), text, 3, [LIAR])
+    run = f"3 unmute; mute found > noise; alone spare > x{WRONG_SUM}"
+    yield shows("a flaw of a text after one of a mute", discovery(run), AFTER_MUTE, 3, [LIAR])
+    run = f"3 unmute; alone spare > found; alone spare > x{WRONG_SUM}"
+    yield shows("a flaw of a text after the text of another UID", discovery(run), AFTER_TEXT, 3, [LIAR])
