@@ -25,13 +25,20 @@ UNREAD = "exchange 7 mutes a UID that no earlier branch had read\n"
 # How a quick run goes on, and how it ends.
 GOES_ON = "0 devices; others may be on the line, or the log ends within the run\n"
 ENDS = """\
-fault 1 1234:00000008 (it alone was asked, and the answers weren't a new device's), 0 devices; \
+ended early at 1234:00000008 (it alone was asked, and the answers weren't a new device's), 0 devices; \
 others may be on the line
 """
 GARBLED = """\
-exchange 3{}: 1234:00000008 alone was asked, and bytes came that aren't its answer; \
-a rule was broken, by a device or noise: take 1234:00000008 off the line and discover again; \
-if it isn't there, split the line
+exchange 3{}: 1234:00000008 alone was asked, and bytes came that are no right answer: \
+they don't begin like a discovery reply; a rule was broken, """
+# Few bad answers may be noise, and five are rather the device's.
+FEW = f"""\
+{GARBLED}by a device or noise: take 1234:00000008 off the line and discover again; \
+if your rig has no such device, split the line
+"""
+OFTEN = f"""\
+{GARBLED}probably by 1234:00000008 or its wiring: take it off the line and discover again; \
+if your rig has no such device, split the line
 """
 IGNORES = """\
 1234:00000008 answered alone and then acknowledged no mute: it left, or broke a rule; \
@@ -56,14 +63,14 @@ discovery: full, steady, 4 exchanges, 0 devices; others may be on the line, or t
 not settled: a device from 0000:00000000 up may be missing
 exchange 3: the UIDs from 0000:00000000 to ffff:ffffffff were asked, \
 and bytes came though no listed device was due; \
-they read as 1234:00000001, which isn't listed: name it by --present, if it is there
+they read as 1234:00000001, which isn't listed: name it by --present, if your rig has it
 """
 
 ALONE = """\
 discovery: 1 exchange, 0 devices; others may be on the line, as the log begins within the run
 exchange 3: the UIDs from 0000:00000000 to ffff:ffffffff were asked, \
 and bytes came though no listed device was due; \
-they read as 1234:00000001, which isn't listed: name it by --present, if it is there
+they read as 1234:00000001, which isn't listed: name it by --present, if your rig has it
 """
 
 CUT_BEFORE = """\
@@ -86,7 +93,7 @@ FAILING = (
 )
 
 FAILED = """\
-run 1: full, 2 exchanges, fault 4 (the line failed), 0 devices; others may be on the line
+run 1: full, 2 exchanges, ended early (the line failed), 0 devices; others may be on the line
 exchange 2 should be one of the three unmutes that begin a run
 exchange 1 failed: check the adapter and the cable
 not settled: a device from 0000:00000000 up may be missing
@@ -130,10 +137,11 @@ GONE = "1234:00000001 was known, and wasn't found: the run ended before it was c
 
 # Those that ended, and all of them.
 ENDED = f"""\
-run 1: incremental, quick, 1 exchange, fault 3 (its budget of 384008 frames is used up), 0 devices; \
+run 1: incremental, quick, 1 exchange, ended early (its budget of 384008 frames is used up), 0 devices; \
 others may be on the line
 {GAPS}\
-run 2: full, quick, 1 exchange, fault 3 (its budget of 384008 frames is used up), 0 devices; others may be on the line
+run 2: full, quick, 1 exchange, ended early (its budget of 384008 frames is used up), 0 devices; \
+others may be on the line
 {GAPS}"""
 
 OF_KINDS = f"""\
@@ -142,33 +150,33 @@ run 3: incremental, quick, 1 exchange, 0 devices; others may be on the line, or 
 {GAPS}"""
 
 AFTER_WAITING = f"""\
-run 2: steady, 1 exchange, fault 3 (its budget of 384008 frames is used up), 0 devices; others may be on the line
+run 2: steady, 1 exchange, ended early (its budget of 384008 frames is used up), 0 devices; others may be on the line
 {GAPS}{GONE}\
-run 3: incremental, steady, 1 exchange, fault 3 (its budget of 384008 frames is used up), 0 devices; \
+run 3: incremental, steady, 1 exchange, ended early (its budget of 384008 frames is used up), 0 devices; \
 others may be on the line
 {GAPS}\
 1234:00000001 is known, but wasn't muted before the first branch
 {GONE}"""
 
 FROM_WITHIN = f"""\
-run 2: steady, 1 exchange, fault 3 (its budget of 384008 frames is used up), 0 devices; \
+run 2: steady, 1 exchange, ended early (its budget of 384008 frames is used up), 0 devices; \
 others may be on the line, as the log begins within the run; exchanges count from there
-run 3: incremental, steady, 1 exchange, fault 3 (its budget of 384008 frames is used up), 0 devices; \
+run 3: incremental, steady, 1 exchange, ended early (its budget of 384008 frames is used up), 0 devices; \
 others may be on the line
 {GAPS}\
 1234:00000001 is known, but wasn't muted before the first branch
 {GONE}"""
 
 UNOPENED = f"""\
-run 2: 1 exchange, fault 3 (its budget of frames is used up), 0 devices; \
+run 2: 1 exchange, ended early (its budget of frames is used up), 0 devices; \
 others may be on the line, as the log may begin within the run; exchanges count from there
-run 3: incremental, 1 exchange, fault 3 (its budget of frames is used up), 0 devices; others may be on the line
+run 3: incremental, 1 exchange, ended early (its budget of frames is used up), 0 devices; others may be on the line
 {GAPS}"""
 
 OF_THREE_RUNS = f"""\
 run 1: full, quick, 10 exchanges, no fault, 1 device; no other device is on the line if all follow the rules
 1234:00000001 was found, and followed the rules
-run 2: incremental, quick, 1 exchange, fault 3 (its budget of 384008 frames is used up), 0 devices; \
+run 2: incremental, quick, 1 exchange, ended early (its budget of 384008 frames is used up), 0 devices; \
 others may be on the line
 {GAPS}\
 1234:00000001 is known, but wasn't muted before the first branch
@@ -208,13 +216,13 @@ no other device is on the line if all follow the rules
 # After the answer of run 1 the log has all of run 2.
 ANSWERED = answer(0, 1) + ask(1, "incremental") + session_run(2, "unmute") + answer(1, 2, fault=3)
 AFTER_ANSWER = f"""\
-run 2: incremental, 1 exchange, fault 3 (its budget of frames is used up), 0 devices; others may be on the line
+run 2: incremental, 1 exchange, ended early (its budget of frames is used up), 0 devices; others may be on the line
 {GAPS}"""
 
 # 1,025 devices acknowledge mutes.
 TOO_MANY = FULL + discovery("3 unmute") + mutes(1025, first=3)
 CROWDED = """\
-discovery: full, steady, 1028 exchanges, fault 2 (more than 1,024 devices answered), 1024 devices; \
+discovery: full, steady, 1028 exchanges, ended early (more than 1,024 devices answered), 1024 devices; \
 others may be on the line
 1234:00000401 acknowledged a mute, but isn't reported: a run reports at most 1,024 devices
 not settled: a device from 0000:00000000 up may be missing
@@ -226,12 +234,14 @@ they may be noise, or those of a device that isn't listed
 
 # Quick runs in which several UIDs that aren't listed were answered wrongly when they were asked alone, or answered
 # alone and then no mute. The last one isn't the only one that is judged.
-ADVICE, SPLIT = "take it off the line and discover again", "if it isn't there, split the line"
-WRONG = f"{{}} alone was asked, and bytes came that aren't its answer: {ADVICE}; {SPLIT} (exchange {{}})\n"
+ADVICE, SPLIT = "take it off the line and discover again", "if your rig has no such device, split the line"
+WRONG = f"{{}} alone was asked, and bytes came that are no right answer: {ADVICE}; {SPLIT} (exchange {{}})\n"
 NO_MUTE = f"{{}} answered alone and then acknowledged no mute: it left, or broke a rule; {ADVICE}\n"
 FIRST_WRONG = """\
-exchange {0} (and {1} more): {2} alone was asked, and bytes came that aren't its answer; \
-a rule was broken, by a device or noise: take {2} off the line and discover again; if it isn't there, split the line
+exchange {0} (and {1} more): {2} alone was asked, and bytes came that are no right answer: \
+they don't begin like a discovery reply; a rule was broken, by a device or noise: \
+take {2} off the line and discover again; \
+if your rig has no such device, split the line
 """
 SPARE, NEW_ONE = "1234:00000008", "9abc:00000002"
 LIARS = (
@@ -259,7 +269,7 @@ LIARS = (
      "bytes came though no listed device was due; they may be noise, or those of a device that isn't listed\n"
      + FIRST_WRONG.format(4, 1, SPARE)),
     ("a broadcast UID that is answered wrongly", "3 unmute; alone spare > noise; alone nobody > noise; all",
-     f"6 exchanges, {GOES_ON}{UNCOVERED}ffff:ffffffff alone was asked, and bytes came that aren't its answer: "
+     f"6 exchanges, {GOES_ON}{UNCOVERED}ffff:ffffffff alone was asked, and bytes came that are no right answer: "
      "split the line and discover each half (exchange 4)\n" + FIRST_WRONG.format(3, 1, SPARE)),
     ("two that are answered wrongly, but have no device, as the certificate is complete",
      "3 unmute; alone spare > noise; alone liar > noise; 5 all",
@@ -295,10 +305,12 @@ JSON_WRONG = """{"passing":[],"runs":[{"exchanges":10,"kind":"full","search":"qu
 0 devices; others may be on the line, or the log ends within the run"},\
 {"judgement":"gap","uid":"0000:00000000","sentence":"not settled: a device from 0000:00000000 up may be missing"},\
 {"judgement":"garbled","uid":"1234:00000009","exchange":4,"sentence":"1234:00000009 alone was asked, and bytes came \
-that aren't its answer: take it off the line and discover again; if it isn't there, split the line (exchange 4)"},\
+that are no right answer: take it off the line and discover again; if your rig has no such device, split the line \
+(exchange 4)"},\
 {"judgement":"garbled","uid":"1234:00000008","exchange":3,"sentence":"exchange 3 (and 1 more): 1234:00000008 alone \
-was asked, and bytes came that aren't its answer; a rule was broken, by a device or noise: take 1234:00000008 off the \
-line and discover again; if it isn't there, split the line"}]}],"broken":true}
+was asked, and bytes came that are no right answer: they don't begin like a discovery reply; a rule was broken, \
+by a device or noise: take 1234:00000008 off the line and discover again; if your rig has no such device, \
+split the line"}]}],"broken":true}
 """
 
 # 18 UIDs are answered wrongly. A run of this project sets at most 16 apart.
@@ -335,19 +347,26 @@ def quick_runs() -> Iterator[Case]:
 
     Mutes that aren't acknowledged may come between them, but no silence.
     """
-    for answers, count, more in (("alone spare > noise", 4, ""), ("7 alone spare > noise", 10, " (and 6 more)"),
-                                 ("4 alone spare > noise; alone spare; 4 alone spare > noise", 12, " (and 7 more)"),
-                                 ("4 alone spare > noise; all > noise; 4 alone spare > noise", 12, " (and 7 more)")):
+    for answers, count, said in (
+            ("alone spare > noise", 4, FEW.format("")), ("4 alone spare > noise", 7, FEW.format(" (and 3 more)")),
+            ("5 alone spare > noise", 8, OFTEN.format(" (and 4 more)")),
+            ("7 alone spare > noise", 10, OFTEN.format(" (and 6 more)")),
+            ("4 alone spare > noise; alone spare; 4 alone spare > noise", 12, OFTEN.format(" (and 7 more)")),
+            ("4 alone spare > noise; all > noise; 4 alone spare > noise", 12, OFTEN.format(" (and 7 more)"))):
         yield shows(f"a quick run that goes on: {answers}", QUICK + discovery(f"3 unmute; {answers}"),
-                    f"discovery: full, quick, {count} exchanges, {GOES_ON}{UNCOVERED}{GARBLED.format(more)}", 3)
+                    f"discovery: full, quick, {count} exchanges, {GOES_ON}{UNCOVERED}{said}", 3)
+    failing = "4 alone spare > noise; all > failed; 4 alone spare > noise"
+    yield shows("a quick run with bad answers before and after a failure", QUICK + discovery(f"3 unmute; {failing}"),
+                "discovery: full, quick, 12 exchanges, 0 devices; others may be on the line\n"
+                f"exchange 7 failed: check the adapter and the cable\n{UNCOVERED}{FEW.format(' (and 3 more)')}", 3)
     for answers, count in (8, 11), (9, 12):
         yield shows(f"a quick run that ends: {answers}", QUICK + discovery(f"3 unmute; {answers} alone spare > noise"),
                     f"discovery: full, quick, {count} exchanges, {ENDS}{UNCOVERED}"
-                    + GARBLED.format(f" (and {answers - 1} more)"), 3)
+                    + OFTEN.format(f" (and {answers - 1} more)"), 3)
     between = "4 alone spare > noise; mute spare > noise; 4 alone spare > noise"
     yield shows("a quick run that ends, with a mute between bad answers", QUICK + discovery(f"3 unmute; {between}"),
                 f"discovery: full, quick, 12 exchanges, {ENDS}{UNTRIED}{UNCOVERED}{UNREAD}"
-                + GARBLED.format(" (and 8 more)"), 3)
+                + OFTEN.format(" (and 8 more)"), 3)
     for name, liars, said in LIARS:
         yield shows(f"a quick run with {name}", QUICK + discovery(liars), f"discovery: full, quick, {said}", 3)
     yield shows("a quick run with 18 that are answered wrongly", MANY_WRONG, OF_MANY, 3)

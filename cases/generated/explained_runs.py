@@ -8,8 +8,7 @@ from __future__ import annotations
 from typing import Iterator, List, NamedTuple, Sequence
 
 from ..checker.case import Case
-from .runs import LIAR, UIDS, CommandClass, Pid, ResponseType, command_of, discovery, opening, session_opening
-from .runs import session_run, shows, shows_with_scene, uid_text
+from .runs import LIAR, discovery, opening, session_opening, session_run, shows, shows_with_scene
 
 # Each block has a name, a run, all that is printed of it, and the status. An empty line ends a block.
 #
@@ -35,13 +34,14 @@ status 3
 
 other bytes from another UID alone, with which a run ends
 3 unmute; alone spare > noise
-4 exchanges, fault 1 1234:00000008 (it alone was asked, and the answers weren't a new device's), \
+4 exchanges, ended early at 1234:00000008 (it alone was asked, and the answers weren't a new device's), \
 0 devices, but 1 listed device wasn't found; others may be on the line
 not settled: a device from 0000:00000000 up may be missing
 1234:00000009 wasn't found: the run ended before it was clear whether it is there; it broke no rule until then
-exchange 3: 1234:00000008 alone was asked, and bytes came that aren't its answer; \
-a rule was broken, by a device or noise: take 1234:00000008 off the line and discover again; \
-if it isn't there, split the line
+exchange 3: 1234:00000008 alone was asked, and bytes came that are no right answer: \
+they don't begin like a discovery reply; a rule was broken, by a device or noise: \
+take 1234:00000008 off the line and discover again; \
+if your rig has no such device, split the line
 status 3
 
 the same after a complete certificate, with which a run has ended without a fault
@@ -50,9 +50,10 @@ the same after a complete certificate, with which a run has ended without a faul
 the log doesn't have the run's kind
 1234:00000009 was never heard: check its power, its cable, its UID and that RDM is on \
 (exchange 7 is the fifth silence in a row in a range that holds it)
-exchange 8: 1234:00000008 alone was asked, and bytes came that aren't its answer; \
-a rule was broken, by a device or noise: take 1234:00000008 off the line and discover again; \
-if it isn't there, split the line
+exchange 8: 1234:00000008 alone was asked, and bytes came that are no right answer: \
+they don't begin like a discovery reply; a rule was broken, by a device or noise: \
+take 1234:00000008 off the line and discover again; \
+if your rig has no such device, split the line
 status 3
 
 five mutes without an acknowledgement after a complete certificate
@@ -82,12 +83,12 @@ another UID's text from it alone, after which a run goes on
 not settled: a device from 0000:00000000 up may be missing
 1234:00000009 wasn't found yet; it followed the rules in the exchanges that the log has
 exchange 3: 1234:00000008 alone was asked, and bytes came though no listed device was due; \
-they read as 1234:00000008, which isn't listed: name it by --present, if it is there
+they read as 1234:00000008, which isn't listed: name it by --present, if your rig has it
 status 0
 
 the same and five mutes of it, with which a run ends
 3 unmute; alone spare > spare; 5 mute spare
-9 exchanges, fault 1 1234:00000008 (it alone was asked, and the answers weren't a new device's), \
+9 exchanges, ended early at 1234:00000008 (it alone was asked, and the answers weren't a new device's), \
 0 devices, but 1 listed device wasn't found; others may be on the line
 not settled: a device from 0000:00000000 up may be missing
 1234:00000009 wasn't found: the run ended before it was clear whether it is there; it broke no rule until then
@@ -102,19 +103,19 @@ exchange 8 failed: check the adapter and the cable
 not settled: a device from 0000:00000000 up may be missing
 1234:00000009 wasn't found: exchange 8 failed before it was clear whether it is there; it broke no rule until then
 exchange 3: 1234:00000008 alone was asked, and bytes came though no listed device was due; \
-they read as 1234:00000008, which isn't listed: name it by --present, if it is there
+they read as 1234:00000008, which isn't listed: name it by --present, if your rig has it
 status 0
 
 the same with other bytes after each mute
 3 unmute; alone spare > spare; 5 mute spare > noise
-9 exchanges, fault 1 1234:00000008 (it alone was asked, and the answers weren't a new device's), \
+9 exchanges, ended early at 1234:00000008 (it alone was asked, and the answers weren't a new device's), \
 0 devices, but 1 listed device wasn't found; others may be on the line
 not settled: a device from 0000:00000000 up may be missing
 1234:00000009 wasn't found: the run ended before it was clear whether it is there; it broke no rule until then
 1234:00000008 answered alone and then acknowledged no mute: a rule was broken, by it, another device or noise
 exchange 4 (and 4 more): bytes came after a mute of 1234:00000008 that don't acknowledge it: \
-they are too short for a response; a rule was broken, by a device or noise: \
-take 1234:00000008 off the line and discover again; if it isn't there, split the line
+they are too short for a response; a rule was broken, probably by 1234:00000008 or its wiring: \
+take it off the line and discover again; if your rig has no such device, split the line
 status 3
 """
 
@@ -138,7 +139,7 @@ status 3
 
 a broadcast UID that answers alone
 3 unmute; alone nobody > nobody
-discovery: 4 exchanges, fault 1 ffff:ffffffff (it alone was asked, and the answers weren't a new device's), \
+discovery: 4 exchanges, ended early at ffff:ffffffff (it alone was asked, and the answers weren't a new device's), \
 0 devices, but 1 listed device wasn't found; others may be on the line
 not settled: a device from 0000:00000000 up may be missing
 1234:00000009 wasn't found: the run ended before it was clear whether it is there; it broke no rule until then
@@ -148,12 +149,12 @@ status 3
 
 other bytes from a broadcast UID alone
 3 unmute; alone nobody > noise
-discovery: 4 exchanges, fault 1 ffff:ffffffff (it alone was asked, and the answers weren't a new device's), \
+discovery: 4 exchanges, ended early at ffff:ffffffff (it alone was asked, and the answers weren't a new device's), \
 0 devices, but 1 listed device wasn't found; others may be on the line
 not settled: a device from 0000:00000000 up may be missing
 1234:00000009 wasn't found: the run ended before it was clear whether it is there; it broke no rule until then
-exchange 3: ffff:ffffffff alone was asked, and bytes came that aren't its answer; \
-a rule was broken, by a device or noise: split the line and discover each half
+exchange 3: ffff:ffffffff alone was asked, and bytes came that are no right answer: \
+they don't begin like a discovery reply; a rule was broken, by a device or noise: split the line and discover each half
 status 3
 
 four silent mutes
@@ -166,7 +167,7 @@ status 0
 
 bytes of a device that stays unmuted, first where another one was due, and then from it alone
 3 unmute; all > liar; mute liar > ack; all > liar; mute spare > ack; 2 alone liar > liar
-discovery: 9 exchanges, fault 1 1234:00000009 (it alone was asked, and the answers weren't a new device's), \
+discovery: 9 exchanges, ended early at 1234:00000009 (it alone was asked, and the answers weren't a new device's), \
 2 devices; others may be on the line
 not settled: a device from 0000:00000000 up may be missing
 1234:00000008 was found, and followed the rules
@@ -177,7 +178,7 @@ status 3
 
 a device that answers alone, after an unmute and a mute that it didn't acknowledge
 3 unmute; mute liar > ack; unmute; mute liar; mute spare > ack; alone liar > liar
-discovery: 8 exchanges, fault 1 1234:00000009 (it alone was asked, and the answers weren't a new device's), \
+discovery: 8 exchanges, ended early at 1234:00000009 (it alone was asked, and the answers weren't a new device's), \
 2 devices; others may be on the line
 not settled: a device from 0000:00000000 up may be missing
 1234:00000008 was found, and followed the rules
@@ -195,7 +196,7 @@ status 0
 the same, and then its text
 3 unmute; mute liar > ack; unmute; mute liar; mute spare > ack; alone liar > liar; mute liar > ack; alone liar; \
 alone liar > liar
-discovery: 11 exchanges, fault 1 1234:00000009 (it alone was asked, and the answers weren't a new device's), \
+discovery: 11 exchanges, ended early at 1234:00000009 (it alone was asked, and the answers weren't a new device's), \
 2 devices; others may be on the line
 not settled: a device from 0000:00000000 up may be missing
 1234:00000008 was found, and followed the rules
@@ -230,7 +231,7 @@ not settled: a device from 0000:00000000 up may be missing
 a rule was broken, by it, another device or noise)
 exchange 3: bytes came after a mute of 1234:00000009 that don't acknowledge it: \
 they are too short for a response; a rule was broken, by a device or noise: \
-take 1234:00000009 off the line and discover again; if it isn't there, split the line
+take 1234:00000009 off the line and discover again; if your rig has no such device, split the line
 status 3
 
 the same, and other bytes after a mute of that UID
@@ -244,7 +245,7 @@ exchange 5: bytes came after a mute of 1234:00000008, which isn't listed; \
 they may be noise, or those of a device that isn't listed
 exchange 3 (and 1 more): bytes came after a mute of 1234:00000009 that don't acknowledge it: \
 they are too short for a response; a rule was broken, by a device or noise: \
-take 1234:00000009 off the line and discover again; if it isn't there, split the line
+take 1234:00000009 off the line and discover again; if your rig has no such device, split the line
 status 3
 
 noise from all UIDs and from two, and then the text of one from it alone
@@ -257,15 +258,16 @@ status 0
 
 the same, and then noise from it alone
 3 unmute; all > noise; spare to liar > noise; mute liar; alone liar; alone liar > liar; 2 alone liar > noise
-discovery: 10 exchanges, fault 1 1234:00000009 (it alone was asked, and the answers weren't a new device's), \
+discovery: 10 exchanges, ended early at 1234:00000009 (it alone was asked, and the answers weren't a new device's), \
 0 devices, but 1 listed device wasn't found; others may be on the line
 exchange 5 mutes a UID that neither acknowledged nor was muted five times in a row: perhaps no device has it
 not settled: a device from 0000:00000000 up may be missing
 1234:00000009 wasn't found: the run ended before it was clear whether it is there; \
 exchange 8 has its UID and an answer that wasn't due, perhaps another device's
-exchange 8 (and 1 more): 1234:00000009 alone was asked, and bytes came that aren't its answer; \
-a rule was broken, by a device or noise: take 1234:00000009 off the line and discover again; \
-if it isn't there, split the line
+exchange 8 (and 1 more): 1234:00000009 alone was asked, and bytes came that are no right answer: \
+they don't begin like a discovery reply; a rule was broken, by a device or noise: \
+take 1234:00000009 off the line and discover again; \
+if your rig has no such device, split the line
 status 3
 
 a mute that is lost, and one that is acknowledged
@@ -283,16 +285,16 @@ not settled: a device from 0000:00000000 up may be missing
 (exchange 5 has other bytes: a rule was broken, by it, another device or noise)
 exchange 5: bytes came after a mute of 1234:00000009 that don't acknowledge it: \
 they are too short for a response; a rule was broken, by a device or noise: \
-take 1234:00000009 off the line and discover again; if it isn't there, split the line
+take 1234:00000009 off the line and discover again; if your rig has no such device, split the line
 status 3
 
 another UID's text from a broadcast UID alone
 3 unmute; alone nobody > spare
-discovery: 4 exchanges, fault 1 ffff:ffffffff (it alone was asked, and the answers weren't a new device's), \
+discovery: 4 exchanges, ended early at ffff:ffffffff (it alone was asked, and the answers weren't a new device's), \
 0 devices, but 1 listed device wasn't found; others may be on the line
 not settled: a device from 0000:00000000 up may be missing
 1234:00000009 wasn't found: the run ended before it was clear whether it is there; it broke no rule until then
-exchange 3: ffff:ffffffff alone was asked, and bytes came that aren't its answer; they read as 1234:00000008; \
+exchange 3: ffff:ffffffff alone was asked, and bytes came that are no right answer; they read as 1234:00000008; \
 a rule was broken, by a device or noise: take 1234:00000008 off the line and discover again
 status 3
 
@@ -304,7 +306,7 @@ not settled: a device from 0000:00000000 up may be missing
 (exchange 3 has other bytes: a rule was broken, by it, another device or noise)
 exchange 3: bytes came after a mute of 1234:00000009 that don't acknowledge it: \
 they are too short for a response; a rule was broken, by a device or noise: \
-take 1234:00000009 off the line and discover again; if it isn't there, split the line
+take 1234:00000009 off the line and discover again; if your rig has no such device, split the line
 status 3
 
 a device that is found, and silent after three more unmutes
@@ -323,7 +325,7 @@ not settled: a device from 0000:00000000 up may be missing
 1234:00000009 wasn't found yet; it followed the rules in the exchanges that the log has
 exchange 3 (and 1 more): bytes came after a mute of 1234:00000008 that don't acknowledge it: \
 they are too short for a response; a rule was broken, by a device or noise: \
-take 1234:00000008 off the line and discover again; if it isn't there, split the line
+take 1234:00000008 off the line and discover again; if your rig has no such device, split the line
 status 3
 
 another UID's text from a UID alone, after an exchange that failed
@@ -396,7 +398,7 @@ a mute of a UID that is neither known nor read
 incremental 1234:00000001
 3 unmute; mute found; mute found > bound; 5 mute absent; all > new; mute new > bound; 5 all
 discovery: incremental, steady, 17 exchanges, 2 devices; \
-no other device is on the line if all follow the rules, but the run isn't regular
+no other device is on the line if all follow the rules, but the run isn't regular: discover again
 exchange 5 mutes a UID that no earlier branch had read
 1234:00000001 was found, and followed the rules
 9abc:00000002 was found, and followed the rules
@@ -406,7 +408,7 @@ a known UID that is muted only after a branch
 incremental 1234:00000001 5678:00000009 9abc:00000002
 3 unmute; mute found; mute found > bound; 5 mute absent; all > new; mute new > bound; 5 all
 discovery: incremental, steady, 17 exchanges, 2 devices; \
-no other device is on the line if all follow the rules, but the run isn't regular
+no other device is on the line if all follow the rules, but the run isn't regular: discover again
 9abc:00000002 is known, but wasn't muted before the first branch
 1234:00000001 was found, and followed the rules
 9abc:00000002 was found, and followed the rules
@@ -417,7 +419,7 @@ a full run that mutes known UIDs
 full 1234:00000001 5678:00000009
 3 unmute; mute found; mute found > bound; 5 mute absent; all > new; mute new > bound; 5 all
 discovery: full, steady, 17 exchanges, 2 devices; \
-no other device is on the line if all follow the rules, but the run isn't regular
+no other device is on the line if all follow the rules, but the run isn't regular: discover again
 exchange 3 mutes a UID that no earlier branch had read
 1234:00000001 was found, and followed the rules
 9abc:00000002 was found, and followed the rules
@@ -489,57 +491,6 @@ discovery: full, steady, 13 exchanges, 1 device; no other device is on the line 
 """, 0),
 )
 
-# A mute of the liar, and bytes that don't acknowledge it. They are judged in the order of this table.
-SPARE = UIDS["spare"]
-MUTE = command_of(("mute", "liar"), 3)
-FINE = MUTE.answer(UIDS["liar"], ResponseType.ACK, bytes(2))
-NACK = MUTE.answer(UIDS["liar"], ResponseType.NACK_REASON, bytes(2))
-ENCODED = FINE.encode()
-FLAWS = (
-    ("they are too short for a response", ENCODED[:25]),
-    ("they don't begin with the start code", b"\xcd" + ENCODED[1:]),
-    ("their sub start code is wrong", ENCODED[:1] + b"\x02" + ENCODED[2:]),
-    ("their message length is wrong", ENCODED[:-1]),
-    ("their parameter data length is wrong", ENCODED[:23] + b"\x03" + ENCODED[24:]),
-    ("their checksum is wrong", ENCODED[:-1] + bytes([ENCODED[-1] ^ 1])),
-    ("their command class isn't that of a response", FINE._replace(command_class=CommandClass.DISCOVERY).encode()),
-    ("their response type is unknown", FINE._replace(port_or_type=4).encode()),
-    ("they answer another command", FINE._replace(pid=Pid.DISC_UN_MUTE).encode()),
-    ("they answer another command", FINE._replace(command_class=0x21).encode()),
-    ("they are from 1234:00000008", NACK._replace(source=SPARE).encode()),
-    ("they are for another controller", NACK._replace(destination=SPARE).encode()),
-    ("they have another transaction number", NACK._replace(transaction=4).encode()),
-    ("they are a NACK", NACK.encode()),
-    ("they are no ACK", FINE._replace(port_or_type=ResponseType.ACK_TIMER).encode()),
-    ("they are no ACK", FINE._replace(port_or_type=ResponseType.ACK_OVERFLOW).encode()),
-    ("they have neither 2 bytes of data nor 8", FINE._replace(data=bytes(3)).encode()),
-)
-FLAWED = """\
-discovery: {} exchanges, 0 devices; others may be on the line, or the log ends within the run
-exchange 3 mutes a UID that neither acknowledged nor was muted five times in a row: perhaps no device has it
-not settled: a device from 0000:00000000 up may be missing
-1234:00000009 didn't acknowledge a mute: take it off the line and discover again (exchange 3 has other bytes: \
-a rule was broken, by it, another device or noise)
-exchange 3{}: bytes came after a mute of 1234:00000009 that don't acknowledge it: {}; \
-a rule was broken, by a device or noise: take 1234:00000009 off the line and discover again; \
-if it isn't there, split the line
-"""
-
-# The mute is answered by another device.
-FROM_SPARE = FINE._replace(source=SPARE)
-SPARE_ANSWERS = """\
-discovery: 4 exchanges, 0 devices; others may be on the line, or the log ends within the run
-exchange 3 mutes a UID that neither acknowledged nor was muted five times in a row: perhaps no device has it
-not settled: a device from 0000:00000000 up may be missing
-1234:00000008 wasn't found yet; exchange 3 has its UID and an answer that wasn't due, perhaps another device's
-1234:00000009 didn't acknowledge a mute: take it off the line and discover again (exchange 3 has other bytes: \
-a rule was broken, by it, another device or noise)
-exchange 3: bytes came after a mute of 1234:00000009 that don't acknowledge it: they are from 1234:00000008; \
-a rule was broken, by a device or noise: take 1234:00000009 off the line and discover again; \
-if it isn't there, split the line
-"""
-
-
 class Block(NamedTuple):
     """What a table has of a case; the words of an opening only in some tables."""
 
@@ -578,9 +529,6 @@ def cases() -> Iterator[Case]:
     yield shows("the same without the scene", log, JUDGED, 3)
     for name, log, text, status in PASSES:
         yield shows_with_scene(name, log, LATE_SCENE, UNJUDGED_NEW + text, status)
-    yield from flawed()
-    run = f"3 unmute; mute liar > x{FROM_SPARE.encode().hex()}"
-    yield shows("a mute that another listed device answers", discovery(run), SPARE_ANSWERS, 3, [uid_text(SPARE), LIAR])
 
 
 def begun_before() -> Iterator[Case]:
@@ -589,12 +537,3 @@ def begun_before() -> Iterator[Case]:
     yield shows("a log from exchange 2", discovery(SILENCES, first=2), FROM_TWO, 3, [LIAR])
     yield shows("a log from within run 1", within + session_run(1, SILENCES), LATER, 3, [LIAR])
     yield shows("a log that may begin within run 1", session_run(1, SILENCES), UNKNOWN, 3, [LIAR])
-
-
-def flawed() -> Iterator[Case]:
-    """Mutes that aren't acknowledged, and why. Only the first one's flaw is told."""
-    for at, (flaw, reply) in enumerate(FLAWS):
-        run = f"3 unmute; mute liar > x{reply.hex()}"
-        yield shows(f"flaw {at}: {flaw}", discovery(run), FLAWED.format(4, "", flaw), 3, [LIAR])
-        yield shows(f"flaw {at}, and then noise: {flaw}", discovery(f"{run}; mute liar > noise"),
-                    FLAWED.format(5, " (and 1 more)", flaw), 3, [LIAR])

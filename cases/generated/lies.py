@@ -61,7 +61,7 @@ SHORTENED = {re.compile(line): short for line, short in (
     (rf"{UID} was found, but didn't answer: .*\(exchange (\d+) is .*", rf"\1 {FOUND}, {HIDDEN} \2"),
     (rf"{UID} was found, but didn't mute: .*\(exchange (\d+) is .*", rf"\1 {FOUND}, {UNMUTED} \2"),
     (rf"{SIGHTING}: .*(?:bytes came though no listed device was due|, which isn't listed)[;:] .*", r"stray \1\2"),
-    (rf"{SIGHTING}: .* (?:aren't its answer|though it was muted|don't acknowledge it)[;:] .*", r"none \1\2"))}
+    (rf"{SIGHTING}: .* (?:are no right answer|though it was muted|don't acknowledge it)[;:] .*", r"none \1\2"))}
 
 
 class Exchange(NamedTuple):

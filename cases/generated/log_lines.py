@@ -104,7 +104,7 @@ exchange 18446744073709551615 failed: check the adapter and the cable
 discovery: 1 exchange, 0 devices; others may be on the line, as the log begins within the run
 exchange 1: the UIDs from 0000:00000000 to ffff:ffffffff were asked, \
 and bytes came though no listed device was due; \
-they read as 1234:00000001, which isn't listed: name it by --present, if it is there
+they read as 1234:00000001, which isn't listed: name it by --present, if your rig has it
 """, 0),
     ("""\
 {"number":4,"operation":"mute","frame":"cc01181234000000017a7000000100040100000010000200022e","reply":"00"}
@@ -112,7 +112,7 @@ they read as 1234:00000001, which isn't listed: name it by --present, if it is t
 discovery: 1 exchange, 0 devices; others may be on the line, as the log begins within the run
 exchange 4: bytes came after a mute of 1234:00000001 that don't acknowledge it: \
 they are too short for a response; a rule was broken, by a device or noise: \
-take 1234:00000001 off the line and discover again; if it isn't there, split the line
+take 1234:00000001 off the line and discover again; if your rig has no such device, split the line
 """, 3),
 )
 

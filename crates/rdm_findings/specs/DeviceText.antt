@@ -227,12 +227,12 @@ suspect_at r misreads u = if is_some (mentioned r.garbled u) then None else misr
 abbrev pub suspect_advice : ℕ → List ℕ
 suspect_advice u =
     if is_broadcast u then codes "split the line and discover each half"
-    else codes "take it off the line and discover again; if it isn't there, split the line"
+    else codes "take it off the line and discover again; if your rig has no such device, split the line"
 
 -- what is said of such a UID, and of the exchange with this number
 abbrev pub suspect_text : ℕ → ℕ → List ℕ
 suspect_text u number =
-    codes " alone was asked, and bytes came that aren't its answer: " ++ suspect_advice u
+    codes " alone was asked, and bytes came that are no right answer: " ++ suspect_advice u
     ++ (codes " (exchange " ++ decimal number ++ codes ")")
 
 -- the finding about such a UID, if there is such an exchange

@@ -1,11 +1,11 @@
 -- What is printed for a run: the findings about exactly its exchanges.
 use Rattle.std.specs.Prelude.{◌≡◌, ℕ, Bool, ◌&&◌, ◌||◌, not, List, [], ◌∷◌, ◌++◌, Option, Some, None, flat_map, filter}
-use Rattle.std.specs.Prelude.{is_some, if◌then◌else◌, fold, length, nat_le, take, ◌+◌, ◌==◌}
+use Rattle.std.specs.Prelude.{false, is_some, if◌then◌else◌, fold, length, nat_le, take, ◌+◌, ◌==◌}
 use Rattle.std.specs.List.{position}
 use Rattle.rdm_wire.specs.Uid.{has}
 use Rattle.rdm_wire.specs.Devices.{uids_of}
 use Rattle.rdm_agent.specs.Run.{acked_in}
-use Rattle.rdm_agent.specs.declared.limits.TheConstants.{MOST_APART}
+use Rattle.rdm_agent.specs.declared.limits.TheConstants.{MOST_APART, TRIES}
 use Rattle.rdm_agent.specs.declared.kind.Kind.{Kind}
 use Rattle.rdm_agent.specs.declared.kind.Kind.TheVariants.{Full, Incremental}
 use Rattle.rdm_explain.specs.declared.certificate.KnownFinding.{KnownFinding}
@@ -19,15 +19,19 @@ use Rattle.rdm_explain.specs.Garbled.{FirstGarbled}
 use Rattle.rdm_explain.specs.Reported.{reported_in}
 use Rattle.rdm_explain.specs.Rules.{AreFirstBreaches, uids_of_findings}
 use Rattle.rdm_explain.specs.Strays.{FirstStray}
+use Rattle.rdm_findings.specs.declared.cause.Cause.{Cause}
+use Rattle.rdm_findings.specs.declared.cause.Cause.TheVariants as causes
 use Rattle.rdm_findings.specs.declared.explaining.Findings.{Findings}
 use Rattle.rdm_findings.specs.declared.form.Form.{Form}
 use Rattle.rdm_findings.specs.declared.head.RunHead.{RunHead}
 use Rattle.rdm_findings.specs.declared.heard.RunUids.{RunUids}
+use Rattle.rdm_findings.specs.declared.mention.Mention.{Mention}
 use Rattle.rdm_findings.specs.declared.mention.RunFacts.{RunFacts}
 use Rattle.rdm_findings.specs.DeviceText.{device_finding, culprit_finding, suspect_finding, gone_finding}
-use Rattle.rdm_findings.specs.Ends.{is_complete, is_whole, decides_stray, unmuted_at}
+use Rattle.rdm_findings.specs.Ends.{is_complete, is_whole, decides_stray, unmuted_at, is_garbled_mute}
 use Rattle.rdm_findings.specs.FindingText.{head_finding, run_gaps, quiet_text, stray_finding, garbled_finding}
 use Rattle.rdm_findings.specs.FindingText.{unless_garbled, any_broke, answered_finding}
+use Rattle.rdm_findings.specs.Flaws.{may_be_noise}
 use Rattle.rdm_findings.specs.HeardUids.{heard_in, in_uids}
 use Rattle.rdm_findings.specs.RunJson.{before_run, run_end}
 use Rattle.rdm_findings.specs.Mentions.{garbled_mention, stray_mention, is_misread, misread_by, misread_in}
@@ -156,12 +160,6 @@ devices_text form r xs f =
     flat_map (device_finding form r f.misreads f.heard f.acked) f.devices.items
     ++ others_text form r xs f
 
--- the findings about bytes
-abbrev pub bytes_text : Form → RunHead → List Exchange → Findings → List ℕ
-bytes_text form head xs f =
-    stray_finding form head.start f.due.items (decides_stray head f.certificate) xs (stray_of f)
-    ++ garbled_finding form head.start head.flaw xs f.garbled ++ answered_finding form head.start xs
-
 -- how many of these devices acknowledged no mute, and n
 abbrev pub missing_after : RunUids → ℕ → List DeviceFinding → ℕ
 missing_after acked n fs = fold (λ n f. if in_uids acked f.uid then n else n + 1) n fs
@@ -169,6 +167,63 @@ missing_after acked n fs = fold (λ n f. if in_uids acked f.uid then n else n + 
 -- how many listed devices acknowledged no mute, if the log has all of the run
 abbrev pub missing_in : RunHead → List Exchange → Findings → ℕ
 missing_in head xs f = if shows_all head xs f then missing_after f.acked 0 f.devices.items else 0
+
+-- whether there is one such exchange alone
+abbrev pub is_only : Option Sighting → Bool
+is_only None = false
+is_only (Some s) = s.more == 0
+
+-- whether one of these findings is about this UID
+abbrev pub any_about : ℕ → List DeviceFinding → Bool
+any_about u [] = false
+any_about u (f ∷ fs) = (f.uid == u) || any_about u fs
+
+-- whether a line names a UID that no device should have: none that is listed, comes or leaves, answered alone, or was
+-- known
+abbrev pub is_nobody : Findings → Option Mention → Bool
+is_nobody f None = false
+is_nobody f (Some m) = not (has f.due.items m.uid || any_about m.uid f.gone.items)
+
+-- whether a run found all devices that stayed and followed the rules, and all that are listed, and one exchange alone
+-- has bytes that no honest line allows, which noise may have made
+abbrev pub is_calm : RunHead → List Exchange → Findings → Bool
+is_calm head xs f =
+    decides_stray head f.certificate && (missing_in head xs f == 0) && is_only f.garbled && may_be_noise head.flaw
+
+-- whether u was asked alone or muted, and bytes came that are no right answer
+abbrev pub is_bad_answer : ℕ → Exchange → Bool
+is_bad_answer u e = is_misread u e || is_garbled_mute u e
+
+-- how many of these exchanges are so, and n
+abbrev pub bad_after : ℕ → ℕ → List Exchange → ℕ
+bad_after u n xs = fold (λ n e. if is_bad_answer u e then n + 1 else n) n xs
+
+-- whether a line names a UID that had as many bad answers as a mute is tried, before an exchange failed
+abbrev pub is_stubborn : Option ℕ → List Exchange → Option Mention → Bool
+is_stubborn failure xs None = false
+is_stubborn failure xs (Some m) = nat_le TRIES (bad_after m.uid 0 (before_failure failure xs))
+
+-- who is to blame for other bytes than noise
+abbrev pub if_stubborn : Bool → Cause
+if_stubborn stubborn = if stubborn then causes.Device else causes.Unclear
+
+-- the same of bytes that a line names
+abbrev pub cause_by : RunHead → List Exchange → Findings → Option Mention → Cause
+cause_by head xs f mention =
+    if is_calm head xs f && is_nobody f mention then causes.Noise
+    else if_stubborn (is_stubborn f.certificate.failure xs mention)
+
+-- Who is probably to blame for the first bytes that no honest line allows. If it is noise, a device would have been
+-- found, or would have sent other bytes again. Noise seldom comes so often after one UID
+abbrev pub cause_of : RunHead → List Exchange → Findings → Cause
+cause_of head xs f = cause_by head xs f (garbled_mention head.start head.flaw xs f.garbled)
+
+-- the findings about bytes
+abbrev pub bytes_text : Form → RunHead → List Exchange → Findings → List ℕ
+bytes_text form head xs f =
+    stray_finding form head.start f.due.items (decides_stray head f.certificate) xs (stray_of f)
+    ++ garbled_finding form head.start (cause_of head xs f) head.flaw xs f.garbled
+    ++ answered_finding form head.start xs
 
 -- the findings about the run, its certificate and its silence
 abbrev pub run_text : Form → RunHead → List Exchange → Findings → List ℕ

@@ -12,7 +12,6 @@ use Rattle.rdm_agent.specs.declared.search.Search.{Search}
 use Rattle.rdm_agent.specs.declared.search.Search.TheVariants.{Steady, Quick}
 use Rattle.rdm_agent.specs.declared.fault.AgentFault.{AgentFault}
 use Rattle.rdm_agent.specs.declared.fault.AgentFault.TheVariants.{Corrupt, TooMany, Exhausted, LineFailed, Aborted}
-use Rattle.rdm_reports.specs.Report.{fault_text}
 use Rattle.rdm_explain.specs.declared.certificate.RunFinding.{RunFinding}
 use Rattle.rdm_explain.specs.declared.certificate.KnownFinding.{KnownFinding}
 use Rattle.rdm_explain.specs.declared.exchange.Asked.{Asked}
@@ -23,6 +22,8 @@ use Rattle.rdm_explain.specs.declared.exchange.Exchange.{Exchange}
 use Rattle.rdm_explain.specs.declared.rule.DeviceFinding.{DeviceFinding}
 use Rattle.rdm_explain.specs.declared.sighting.Sighting.{Sighting}
 use Rattle.rdm_explain.specs.Exchanges.{heard_of}
+use Rattle.rdm_findings.specs.declared.cause.Cause.{Cause}
+use Rattle.rdm_findings.specs.declared.cause.Cause.TheVariants as causes
 use Rattle.rdm_findings.specs.declared.flaw.Flaw.{Flaw}
 use Rattle.rdm_findings.specs.declared.head.RunHead.{RunHead}
 use Rattle.rdm_findings.specs.declared.head.Start.{Start}
@@ -86,7 +87,7 @@ abbrev pub spent_text : Option ℕ → List ℕ
 spent_text None = codes " (its budget of frames is used up)"
 spent_text (Some budget) = codes " (its budget of " ++ count_text budget (codes " frame") ++ codes " is used up)"
 
--- what its fault says
+-- what its fault is, in words
 abbrev pub reason_text : Option ℕ → AgentFault → List ℕ
 reason_text budget (Corrupt u) = codes " (it alone was asked, and the answers weren't a new device's)"
 reason_text budget TooMany = codes " (more than 1,024 devices answered)"
@@ -94,18 +95,23 @@ reason_text budget Exhausted = spent_text budget
 reason_text budget LineFailed = codes " (the line failed)"
 reason_text budget Aborted = codes " (it was aborted)"
 
+-- that it ended early, and at which UID, if its answers ended it
+abbrev pub early_text : AgentFault → List ℕ
+early_text (Corrupt u) = codes "ended early at " ++ uid_text u
+early_text _ = codes "ended early"
+
 -- how it ended, if that is known
 abbrev pub end_text : Option ℕ → Option (Option AgentFault) → List ℕ
 end_text budget None = []
 end_text budget (Some None) = codes ", no fault"
-end_text budget (Some (Some fault)) = codes ", " ++ fault_text fault ++ reason_text budget fault
+end_text budget (Some (Some fault)) = codes ", " ++ early_text fault ++ reason_text budget fault
 
 -- a certificate of which no part fails but those that depend on known UIDs. It shows that no device is on the line but
 -- those that the run reports, unless one broke a rule
 abbrev pub sound_text : Option Kind → Option KnownFinding → List ℕ
 sound_text kind (Some names) =
     if is_known_complete names then codes "; no other device is on the line if all follow the rules"
-    else codes "; no other device is on the line if all follow the rules, but the run isn't regular"
+    else codes "; no other device is on the line if all follow the rules, but the run isn't regular: discover again"
 sound_text None None =
     codes "; no other device is on the line if all follow the rules; the log doesn't have the run's kind"
 sound_text (Some kind) None =
@@ -325,8 +331,8 @@ sign_text asked signs.Unread = []
 abbrev pub advice_text : Bool → Sign → List ℕ
 advice_text true (signs.Listed u) = codes ": take it off the line and discover again"
 advice_text false (signs.Listed u) = codes "; or another device sent them"
-advice_text true (signs.Other u) = codes "; a rule was broken: name it by --present, if it is there"
-advice_text false (signs.Other u) = codes ": name it by --present, if it is there"
+advice_text true (signs.Other u) = codes "; a rule was broken: name it by --present, if your rig has it"
+advice_text false (signs.Other u) = codes ": name it by --present, if your rig has it"
 advice_text true signs.Unread =
     codes "; a rule was broken: look for noise, a device that isn't listed, or one that should be silent there"
 advice_text false signs.Unread = codes "; they may be noise, or those of a device that isn't listed"
@@ -370,14 +376,24 @@ unless_garbled None stray = stray
 unless_garbled (Some garbled) None = None
 unless_garbled (Some garbled) (Some s) = if s.at == garbled.at then None else Some s
 
--- what to do about bytes that no honest line allows, whichever devices are on it, after u was asked. A broadcast UID is
--- no device's, so no single one can be taken off the line. Nor can u, if no device has it
-abbrev pub each_text : ℕ → List ℕ
-each_text u =
-    if is_broadcast u then codes "; a rule was broken, by a device or noise: split the line and discover each half"
-    else
+-- who is probably to blame for bytes that no honest line allows, whichever devices are on it, after u was asked, and
+-- what to do. It can't be taken off the line if no device has it
+abbrev pub cause_text : Cause → ℕ → List ℕ
+cause_text causes.Noise u =
+    codes "; a rule was broken, probably by noise: " ++ uid_text u
+    ++ codes " isn't listed, and all listed devices were found; if it happens again, check the cable and its terminator"
+cause_text causes.Device u =
+    codes "; a rule was broken, probably by " ++ uid_text u
+    ++ codes " or its wiring: take it off the line and discover again; if your rig has no such device, split the line"
+cause_text causes.Unclear u =
     codes "; a rule was broken, by a device or noise: take " ++ uid_text u
-    ++ codes " off the line and discover again; if it isn't there, split the line"
+    ++ codes " off the line and discover again; if your rig has no such device, split the line"
+
+-- the same. A broadcast UID is no device's, so no single one can be taken off the line
+abbrev pub each_text : Cause → ℕ → List ℕ
+each_text cause u =
+    if is_broadcast u then codes "; a rule was broken, by a device or noise: split the line and discover each half"
+    else cause_text cause u
 
 -- which device to take off the line next
 abbrev pub then_text : ℕ → List ℕ
@@ -390,14 +406,24 @@ both_text u v =
     codes "; they read as " ++ uid_text v ++ codes "; a rule was broken, by a device or noise: take "
     ++ (uid_text v ++ codes " off the line and discover again" ++ then_text u)
 
+-- why bytes are no right answer, if that is known
+abbrev pub why_text : Option Flaw → List ℕ
+why_text None = []
+why_text (Some flaw) = codes ": " ++ flaw_text flaw
+
+-- the same, and what to do
+abbrev pub wrong_text : Cause → Option Flaw → ℕ → List ℕ
+wrong_text cause flaw u = why_text flaw ++ each_text cause u
+
 -- what to do after a branch of u alone
-abbrev pub reply_text : ℕ → Heard → List ℕ
-reply_text u (One v) = if is_broadcast v then each_text u else both_text u v
-reply_text u _ = each_text u
+abbrev pub reply_text : Cause → Option Flaw → ℕ → Heard → List ℕ
+reply_text cause flaw u (One v) = if is_broadcast v then each_text cause u else both_text u v
+reply_text cause flaw u _ = wrong_text cause flaw u
 
 -- after a branch of u alone: bytes that aren't its text
-abbrev pub other_bytes : ℕ → Heard → List ℕ
-other_bytes u heard = codes " alone was asked, and bytes came that aren't its answer" ++ reply_text u heard
+abbrev pub other_bytes : Cause → Option Flaw → ℕ → Heard → List ℕ
+other_bytes cause flaw u heard =
+    codes " alone was asked, and bytes came that are no right answer" ++ reply_text cause flaw u heard
 
 -- after a branch of u alone, its text: no device has such a UID, or it is muted. In that case another device may have
 -- sent its UID
@@ -418,24 +444,20 @@ abbrev pub same_text : ℕ → List ℕ
 same_text u = same_why u ++ off_advice u
 
 -- the same, or other bytes
-abbrev pub own_text : ℕ → Heard → List ℕ
-own_text u (Heard.One v) = if v == u then same_text u else other_bytes u (Heard.One v)
-own_text u heard = other_bytes u heard
-
--- why they don't acknowledge a mute, if that is known
-abbrev pub why_text : Option Flaw → List ℕ
-why_text None = []
-why_text (Some flaw) = codes ": " ++ flaw_text flaw
+abbrev pub own_text : Cause → Option Flaw → ℕ → Heard → List ℕ
+own_text cause flaw u (Heard.One v) = if v == u then same_text u else other_bytes cause flaw u (Heard.One v)
+own_text cause flaw u heard = other_bytes cause flaw u heard
 
 -- bytes that don't acknowledge a mute of u
-abbrev pub unacked_text : ℕ → Option Flaw → List ℕ
-unacked_text u flaw = codes " that don't acknowledge it" ++ why_text flaw ++ each_text u
+abbrev pub unacked_text : Cause → ℕ → Option Flaw → List ℕ
+unacked_text cause u flaw = codes " that don't acknowledge it" ++ wrong_text cause flaw u
 
 -- about bytes that came after a branch of one UID alone and aren't its text, or after a mute and don't acknowledge it
-abbrev pub garbled_text : Option Flaw → Asked → Heard → List ℕ
-garbled_text flaw (Branch lo hi) heard = codes ": " ++ uid_text lo ++ own_text lo heard
-garbled_text flaw (Mute u) heard = codes ": bytes came after a mute of " ++ uid_text u ++ unacked_text u flaw
-garbled_text flaw _ heard = []
+abbrev pub garbled_text : Cause → Option Flaw → Asked → Heard → List ℕ
+garbled_text cause flaw (Branch lo hi) heard = codes ": " ++ uid_text lo ++ own_text cause flaw lo heard
+garbled_text cause flaw (Mute u) heard =
+    codes ": bytes came after a mute of " ++ uid_text u ++ unacked_text cause u flaw
+garbled_text cause flaw _ heard = []
 
 -- the UID that was asked alone
 abbrev pub asked_uid : Asked → Option ℕ
@@ -448,16 +470,17 @@ abbrev pub of_garbled : ℕ → Asked → About
 of_garbled number asked = record { judgement = judged.Garbled; uid = asked_uid asked; exchange = Some number }
 
 -- the finding about such an exchange with this number, and so many after it
-abbrev pub garbled_found : Form → (number more : ℕ) → Option Flaw → Option Exchange → List ℕ
-garbled_found form number more flaw None = []
-garbled_found form number more flaw (Some e) =
-    finding form (of_garbled number e.asked) (sighting_name number more ++ garbled_text flaw e.asked e.heard)
+abbrev pub garbled_found : Form → (number more : ℕ) → Cause → Option Flaw → Option Exchange → List ℕ
+garbled_found form number more cause flaw None = []
+garbled_found form number more cause flaw (Some e) =
+    finding form (of_garbled number e.asked) (sighting_name number more ++ garbled_text cause flaw e.asked e.heard)
 
--- the finding about the first such exchange, if there is one. If it is a mute, it is the first whose reply has a flaw
-abbrev pub garbled_finding : Form → Start → Option Flaw → List Exchange → Option Sighting → List ℕ
-garbled_finding form start flaw xs None = []
-garbled_finding form start flaw xs (Some s) =
-    garbled_found form (number_at start s.at) s.more flaw (slice_get xs s.at)
+-- the finding about the first such exchange, if there is one. It is also the first whose reply has a flaw, unless its
+-- reply is the text of a UID
+abbrev pub garbled_finding : Form → Start → Cause → Option Flaw → List Exchange → Option Sighting → List ℕ
+garbled_finding form start cause flaw xs None = []
+garbled_finding form start cause flaw xs (Some s) =
+    garbled_found form (number_at start s.at) s.more cause flaw (slice_get xs s.at)
 
 -- whether bytes came
 abbrev pub is_loud : Heard → Bool

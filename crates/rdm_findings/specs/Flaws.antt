@@ -1,10 +1,12 @@
--- Why bytes that came after a mute don't acknowledge it, by the reader of responses.
-use Rattle.std.specs.Prelude.{ℕ, Bool, true, false, ◌||◌, not, List, ◌++◌, length, Option, Some, None, Result}
-use Rattle.std.specs.Prelude.{Ok, Err, codes, ◌==◌, if◌then◌else◌}
+-- Why bytes that came after a mute don't acknowledge it, by the reader of responses; or why those that came after a
+-- branch of one UID alone are the text of no UID.
+use Rattle.std.specs.Prelude.{ℕ, ◌+◌, Bool, true, false, ◌||◌, not, List, ◌++◌, length, slice_get, Option, Some, None}
+use Rattle.std.specs.Prelude.{Result, Ok, Err, codes, ◌==◌, nat_lt, if◌then◌else◌}
+use Rattle.std.specs.List.{prefix_len}
 use Rattle.arrayvec.specs.ArrayVec.{ArrayVec}
 use Rattle.rdm_wire.specs.Commands.{command_read}
 use Rattle.rdm_wire.specs.Honest.{Asked, Heard, Seen}
-use Rattle.rdm_wire.specs.Honest.Asked.{Mute}
+use Rattle.rdm_wire.specs.Honest.Asked.{Branch, Mute}
 use Rattle.rdm_wire.specs.Honest.Heard.{Noise}
 use Rattle.rdm_wire.specs.Responses.{decoded}
 use Rattle.rdm_wire.specs.UidText.{uid_text}
@@ -62,16 +64,66 @@ abbrev pub flaw_read : Option (Command × ℕ × ℕ) → Seen → List ℕ → 
 flaw_read None e bytes = flaw_of_broadcast e.asked e.heard
 flaw_read (Some (command, s, tn)) e bytes = flaw_after command s tn bytes
 
--- why the line's answer to a frame doesn't acknowledge it, if the frame is a mute, and bytes came
+-- whether this byte follows a preamble
+abbrev pub is_separator : Option ℕ → Bool
+is_separator None = false
+is_separator (Some byte) = byte == 0xaa
+
+-- Why bytes that begin with n bytes fe are the text of no UID: no aa follows, or these are more than seven; or they are
+-- too few for a UID and its checksum; or the checksum is another UID's
+abbrev pub flaw_of_text : ℕ → List ℕ → Flaw
+flaw_of_text n bytes =
+    if nat_lt 7 n || not (is_separator (slice_get bytes n)) then flaws.NoText
+    else (if nat_lt (length bytes) (n + 17) then flaws.Cut else flaws.Sum)
+
+-- why bytes are the text of no UID, if they came after a branch of one UID alone
+abbrev pub flaw_alone : Asked → List ℕ → Option Flaw
+flaw_alone (Branch lo hi) bytes =
+    if lo == hi then Some (flaw_of_text (prefix_len (λ byte. byte == 0xfe) bytes) bytes) else None
+flaw_alone _ bytes = None
+
+-- the same, if they are none
+abbrev pub flaw_of_branch : Asked → Heard → List ℕ → Option Flaw
+flaw_of_branch asked Noise bytes = flaw_alone asked bytes
+flaw_of_branch asked _ bytes = None
+
+-- the first flaw, or else the second
+abbrev pub or_flaw : Option Flaw → Option Flaw → Option Flaw
+or_flaw None second = second
+or_flaw (Some flaw) second = Some flaw
+
+-- why bytes are no right answer to the command that was read, or else to the exchange
+abbrev pub flaw_of_reply : Option (Command × ℕ × ℕ) → Seen → List ℕ → Option Flaw
+flaw_of_reply command e bytes = or_flaw (flaw_of_branch e.asked e.heard bytes) (flaw_read command e bytes)
+
+-- why the line's answer to a frame is no right one, if the frame is a mute, or a branch of one UID alone, and bytes
+-- came
 abbrev pub flaw_of : ArrayVec ℕ → LineEvent → Option Flaw
 flaw_of frame events.Failed = None
 flaw_of frame (events.Reply bytes) =
-    flaw_read (command_read frame.items) (seen_event (frame, events.Reply bytes)) bytes.items
+    flaw_of_reply (command_read frame.items) (seen_event (frame, events.Reply bytes)) bytes.items
 
 -- the first flaw, with one more exchange
 abbrev pub first_flaw : Option Flaw → ArrayVec ℕ → LineEvent → Option Flaw
 first_flaw None frame event = flaw_of frame event
 first_flaw (Some flaw) frame event = Some flaw
+
+-- whether bytes don't even begin like a response
+abbrev pub is_formless : PacketFault → Bool
+is_formless packets.TooShort = true
+is_formless packets.WrongStart = true
+is_formless _ = false
+
+-- whether noise alone may have made bytes with this flaw
+abbrev pub is_noisy : Flaw → Bool
+is_noisy (flaws.Packet fault) = is_formless fault
+is_noisy flaws.NoText = true
+is_noisy _ = false
+
+-- the same of bytes that may have none
+abbrev pub may_be_noise : Option Flaw → Bool
+may_be_noise None = true
+may_be_noise (Some flaw) = is_noisy flaw
 
 -- why bytes are no response
 abbrev pub packet_text : PacketFault → List ℕ
@@ -87,6 +139,9 @@ packet_text packets.InvalidResponseType = codes "their response type is unknown"
 -- a flaw
 abbrev pub flaw_text : Flaw → List ℕ
 flaw_text (flaws.Packet fault) = packet_text fault
+flaw_text flaws.NoText = codes "they don't begin like a discovery reply"
+flaw_text flaws.Cut = codes "they are too short for a discovery reply"
+flaw_text flaws.Sum = codes "their checksum is wrong"
 flaw_text flaws.Broadcast = codes "no device may answer a broadcast"
 flaw_text flaws.Command = codes "they answer another command"
 flaw_text (flaws.Source v) = codes "they are from " ++ uid_text v

@@ -336,7 +336,7 @@ fn are_lost_mutes(uid: Uid, exchanges: &[Exchange]) -> bool
     true
 }
 
-/// Whether bytes came after a mute of this UID, and didn't acknowledge it.
+/// Whether bytes came after a mute of this UID in one of these exchanges, and didn't acknowledge it.
 pub(crate) fn has_garbled_mute(uid: Uid, exchanges: &[Exchange]) -> bool
     ensures { result ≡ list_any (is_garbled_mute uid) exchanges.now }
 {
@@ -348,7 +348,8 @@ pub(crate) fn has_garbled_mute(uid: Uid, exchanges: &[Exchange]) -> bool
     false
 }
 
-fn is_garbled_mute(uid: Uid, exchange: &Exchange) -> bool
+/// Whether bytes came after a mute of this UID, and didn't acknowledge it.
+pub(crate) fn is_garbled_mute(uid: Uid, exchange: &Exchange) -> bool
     ensures { result ≡ is_garbled_mute uid exchange.now }
 {
     lacks_acknowledgement(uid, exchange.asked, &exchange.heard) && has_bytes(&exchange.heard)

@@ -2,16 +2,20 @@
 ghost use Rattle.std.specs.Prelude.{◌≡◌, ◌++◌, IfOk, OnOk, option_copied};
 ghost use Rattle.rdm_explain.specs.Rules.{AreFirstBreaches, uids_of_findings};
 ghost use Rattle.rdm_explain.specs.Strays.{FirstStray};
-ghost use Rattle.rdm_findings.specs.FindingText.{any_broke, stray_finding, unless_garbled};
+ghost use Rattle.rdm_findings.specs.FindingText.{any_broke, garbled_finding, stray_finding, unless_garbled};
 ghost use Rattle.rdm_findings.specs.Ends.{decides_stray};
 ghost use Rattle.rdm_findings.specs.Explained.{first_of, ExplainsNames, Finds, gone_of};
 ghost use Rattle.rdm_findings.specs.Explained.{findings_text, IsExplained, shows_all, is_broken, stray_of, facts_of};
 ghost use Rattle.rdm_findings.specs.Explained.{devices_text, others_text, bytes_text, run_text};
 ghost use Rattle.rdm_findings.specs.Explained.{missing_after, missing_in};
+ghost use Rattle.rdm_findings.specs.Explained.{any_about, cause_by, cause_of, is_calm, is_nobody, is_only};
+ghost use Rattle.rdm_findings.specs.Explained.{if_stubborn, is_stubborn};
 ghost use Rattle.rdm_findings.specs.RunJson.{before_run, run_end};
 
+use crate::cause::{Cause, if_stubborn, is_stubborn};
 use crate::device_text::write_devices;
 use crate::ending::{decides_stray, is_whole};
+use crate::flaw::may_be_noise;
 use crate::form::Form;
 use crate::gap_text::{write_quiet, write_run_gaps};
 use crate::garbled_text::write_garbled;
@@ -19,8 +23,8 @@ use crate::gone_text::{write_culprits, write_gone, write_suspects};
 use crate::head::RunHead;
 use crate::head_text::write_head;
 use crate::heard::{RunUids, acknowledged_uids, heard_uids};
-use crate::listing::{culprits_of, gone_of, listed, suspects_of, with_passing};
-use crate::mention::{RunFacts, garbled_mention, stray_mention};
+use crate::listing::{culprits_of, gone_of, has, listed, suspects_of, with_passing};
+use crate::mention::{Mention, RunFacts, garbled_mention, stray_mention};
 use crate::misread::Misreads;
 use crate::run_json::{write_before_run, write_run_end};
 use crate::stray_text::write_stray;
@@ -318,7 +322,7 @@ fn write_bytes(
     ensures { OnOk result (text.new.items ≡ text.old.items ++ bytes_text form head.now exchanges.now found.now) }
 {
     write_first_stray(text, form, head, exchanges, found)?;
-    write_garbled(text, form, head, exchanges, found.garbled)?;
+    write_first_garbled(text, form, head, exchanges, found)?;
     write_answered(text, form, head.start, exchanges)
 }
 
@@ -344,6 +348,87 @@ fn write_first_stray(
         exchanges,
         stray_of(found),
     )
+}
+
+// Writes the finding about the first exchange with bytes that no honest line allows.
+fn write_first_garbled(
+    text: &mut Vec<u8>,
+    form: Form,
+    head: &RunHead,
+    exchanges: &[Exchange],
+    found: &Findings,
+) -> Result<(), AllocError>
+    ensures { OnOk result (text.new.items ≡ text.old.items
+        ++ garbled_finding form head.now.start (cause_of head.now exchanges.now found.now) head.now.flaw
+        exchanges.now found.now.garbled) }
+{
+    let cause = cause_of(head, exchanges, found);
+    write_garbled(text, form, head, cause, exchanges, found.garbled)
+}
+
+// Who is probably to blame for the first bytes that no honest line allows.
+fn cause_of(head: &RunHead, exchanges: &[Exchange], found: &Findings) -> Cause
+    ensures { result ≡ cause_of head.now exchanges.now found.now }
+{
+    let mention = garbled_mention(head.start, head.flaw, exchanges, found.garbled);
+    cause_by(head, exchanges, found, &mention)
+}
+
+fn cause_by(
+    head: &RunHead,
+    exchanges: &[Exchange],
+    found: &Findings,
+    mention: &Option<Mention>,
+) -> Cause
+    ensures { result ≡ cause_by head.now exchanges.now found.now mention.now }
+{
+    if is_calm(head, exchanges, found) && is_nobody(found, mention) {
+        Cause::Noise
+    } else {
+        if_stubborn(is_stubborn(found.certificate.failure, exchanges, mention))
+    }
+}
+
+// Whether a run found all devices, and one exchange alone has bytes that no honest line allows, which noise may have
+// made.
+fn is_calm(head: &RunHead, exchanges: &[Exchange], found: &Findings) -> bool
+    ensures { result ≡ is_calm head.now exchanges.now found.now }
+{
+    decides_stray(head, &found.certificate)
+        && missing_in(head, exchanges, found) == 0
+        && is_only(found.garbled)
+        && may_be_noise(head.flaw)
+}
+
+// Whether there is one such exchange alone.
+fn is_only(sighting: Option<Sighting>) -> bool
+    ensures { result ≡ is_only sighting }
+{
+    match sighting {
+        Some(first) => first.more == 0,
+        None => false,
+    }
+}
+
+// Whether a line names a UID that no device should have.
+fn is_nobody(found: &Findings, mention: &Option<Mention>) -> bool
+    ensures { result ≡ is_nobody found.now mention.now }
+{
+    match mention {
+        Some(mention) => !(has(&found.due, mention.uid) || any_about(mention.uid, &found.gone)),
+        None => false,
+    }
+}
+
+fn any_about(uid: Uid, devices: &[DeviceFinding]) -> bool
+    ensures { result ≡ any_about uid devices.now }
+{
+    for device in devices {
+        if device.uid == uid {
+            return true;
+        }
+    }
+    false
 }
 
 // The first stray exchange that has a finding of its own.

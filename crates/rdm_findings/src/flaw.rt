@@ -1,29 +1,44 @@
-//! Why bytes that came after a mute don't acknowledge it.
-ghost use Rattle.std.specs.Prelude.{◌≡◌, ◌++◌, OnOk, codes, length};
+//! Why bytes that came after a mute, or a branch of one UID alone, are no right answer.
+ghost use Rattle.std.specs.Prelude.{◌≡◌, ◌≤◌, ◌++◌, OnOk, codes, length, ◌==◌};
+ghost use Rattle.std.specs.List.{prefix_len};
 ghost use Rattle.rdm_wire.specs.Commands.{command_read};
 ghost use Rattle.rdm_wire.specs.Responses.{decoded};
 ghost use Rattle.rdm_wire.specs.UidText.{uid_text};
 ghost use Rattle.rdm_join.specs.Exchange.{seen_event};
-ghost use Rattle.rdm_explain.specs.Exchanges.{seen_of};
+ghost use Rattle.rdm_explain.specs.Exchanges.{asked_of, seen_of};
 ghost use Rattle.rdm_findings.specs.Flaws.{is_discovery, flaw_of_type, flaw_of_response, flaw_of_decoded, flaw_after};
 ghost use Rattle.rdm_findings.specs.Flaws.{flaw_of_broadcast, flaw_read, flaw_of, first_flaw, packet_text, flaw_text};
+ghost use Rattle.rdm_findings.specs.Flaws.{is_formless, is_noisy, may_be_noise};
+ghost use Rattle.rdm_findings.specs.Flaws.{is_separator, flaw_of_text, flaw_alone, flaw_of_branch, flaw_of_reply};
 
 use crate::writing::{write, write_uid};
 use rdm_explain::{Asked, Exchange, Heard, read_exchange};
 use rdm_join::LineEvent;
 use rdm_wire::{
-    AckType, Command, Frame, PacketFault, RespClass, Response, Uid, decode_response, read_command,
+    AckType, Command, Frame, LONGEST_PREAMBLE, PacketFault, RespClass, Response, Uid,
+    decode_response, read_command,
 };
 use std::alloc::AllocError;
 
 // The parameter of a mute (E1.20, discovery mute).
 const DISC_MUTE: u16 = 2;
 
-/// Why bytes don't acknowledge a mute, in the order in which it is tested.
+// The bytes of a discovery reply after its preamble (E1.20, discovery unique branch): a separator, and the UID and its
+// checksum as pairs.
+const TEXT_LEN: usize = 17;
+
+/// Why bytes don't acknowledge a mute, in the order in which it is tested; or why they don't answer a branch of one UID
+/// alone.
 #[derive(Clone, Copy, Debug, PartialEq, Eq)]
 pub enum Flaw {
     /// They are no response.
     Packet(PacketFault),
+    /// They don't begin like the reply to a branch.
+    NoText,
+    /// They are too short for one.
+    Cut,
+    /// They are one with a wrong checksum.
+    Sum,
     /// They came after a mute of a broadcast UID, which no device may answer.
     Broadcast,
     /// They answer another command.
@@ -52,13 +67,80 @@ pub(crate) fn first_flaw(flaw: Option<Flaw>, frame: &Frame, event: &LineEvent) -
     }
 }
 
-// Why the line's answer to a frame doesn't acknowledge it, if the frame is a mute, and bytes came.
+// Why the line's answer to a frame is no right one, if the frame is a mute, or a branch of one UID alone, and bytes
+// came.
 fn flaw_of(frame: &Frame, event: &LineEvent) -> Option<Flaw>
     ensures { result ≡ flaw_of frame.now event.now }
 {
     match event {
         LineEvent::Failed => None,
-        LineEvent::Reply(bytes) => flaw_of_bytes(frame, event, bytes.as_slice()),
+        LineEvent::Reply(bytes) => flaw_of_reply(frame, event, bytes.as_slice()),
+    }
+}
+
+fn flaw_of_reply(frame: &Frame, event: &LineEvent, bytes: &[u8]) -> Option<Flaw>
+    ensures { result ≡ flaw_of_reply (command_read frame.now.items) (seen_event (frame.now, event.now)) bytes.now }
+{
+    match flaw_of_branch(&read_exchange(frame, event), bytes) {
+        Some(first) => Some(first),
+        None => flaw_of_bytes(frame, event, bytes),
+    }
+}
+
+// Why bytes that came after a branch of one UID alone are the text of no UID.
+fn flaw_of_branch(exchange: &Exchange, bytes: &[u8]) -> Option<Flaw>
+    ensures { result ≡ flaw_of_branch (seen_of exchange.now).asked (seen_of exchange.now).heard bytes.now }
+{
+    match exchange.heard {
+        Heard::Noise => flaw_alone(exchange.asked, bytes),
+        _ => None,
+    }
+}
+
+// The same of bytes that are the text of no UID.
+fn flaw_alone(asked: Asked, bytes: &[u8]) -> Option<Flaw>
+    ensures { result ≡ flaw_alone (asked_of asked) bytes.now }
+{
+    match asked {
+        Asked::Branch { lo, hi } => {
+            if lo == hi {
+                Some(flaw_of_text(preamble_len(bytes), bytes))
+            } else {
+                None
+            }
+        }
+        _ => None,
+    }
+}
+
+// How many preamble bytes the bytes begin with.
+fn preamble_len(bytes: &[u8]) -> usize
+    ensures value { result ≡ prefix_len (λ byte. byte == 0xfe) bytes.now }
+    ensures bound { result ≤ length bytes.now }
+{
+    bytes.iter().take_while(|byte| **byte == 0xfe).count()
+}
+
+// Why bytes with so many preamble bytes are the text of no UID.
+fn flaw_of_text(preamble: usize, bytes: &[u8]) -> Flaw
+    ensures { result ≡ flaw_of_text preamble bytes.now }
+{
+    if usize::from(LONGEST_PREAMBLE) < preamble || !is_separator(bytes.get(preamble).copied()) {
+        Flaw::NoText
+    } else if bytes.len() < preamble + TEXT_LEN {
+        Flaw::Cut
+    } else {
+        Flaw::Sum
+    }
+}
+
+// Whether this byte follows a preamble.
+fn is_separator(byte: Option<u8>) -> bool
+    ensures { result ≡ is_separator byte }
+{
+    match byte {
+        Some(byte) => byte == 0xaa,
+        None => false,
     }
 }
 
@@ -146,12 +228,45 @@ fn flaw_of_type(ack: AckType, length: usize) -> Option<Flaw>
     }
 }
 
+/// Whether noise alone may have made bytes, which may have a flaw.
+pub(crate) fn may_be_noise(flaw: Option<Flaw>) -> bool
+    ensures { result ≡ may_be_noise flaw }
+{
+    match flaw {
+        Some(flaw) => is_noisy(flaw),
+        None => true,
+    }
+}
+
+fn is_noisy(flaw: Flaw) -> bool
+    ensures { result ≡ is_noisy flaw }
+{
+    match flaw {
+        Flaw::Packet(fault) => is_formless(fault),
+        Flaw::NoText => true,
+        _ => false,
+    }
+}
+
+// Whether bytes don't even begin like a response.
+fn is_formless(fault: PacketFault) -> bool
+    ensures { result ≡ is_formless fault }
+{
+    match fault {
+        PacketFault::TooShort | PacketFault::WrongStart => true,
+        _ => false,
+    }
+}
+
 /// Writes a flaw in words.
 pub(crate) fn write_flaw(text: &mut Vec<u8>, flaw: Flaw) -> Result<(), AllocError>
     ensures { OnOk result (text.new.items ≡ text.old.items ++ flaw_text flaw) }
 {
     match flaw {
         Flaw::Packet(fault) => write(text, packet_text(fault)),
+        Flaw::NoText => write(text, "they don't begin like a discovery reply"),
+        Flaw::Cut => write(text, "they are too short for a discovery reply"),
+        Flaw::Sum => write(text, "their checksum is wrong"),
         Flaw::Broadcast => write(text, "no device may answer a broadcast"),
         Flaw::Command => write(text, "they answer another command"),
         Flaw::Source(uid) => write_source(text, uid),

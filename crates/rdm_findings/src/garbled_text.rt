@@ -1,12 +1,13 @@
 //! What is printed about bytes that no honest line allows, whichever devices are on it.
 ghost use Rattle.std.specs.Prelude.{◌≡◌, ◌++◌, OnOk, codes};
 ghost use Rattle.rdm_wire.specs.UidText.{uid_text};
-ghost use Rattle.rdm_findings.specs.FindingText.{sighting_name, each_text, reply_text, garbled_text, garbled_found};
+ghost use Rattle.rdm_findings.specs.FindingText.{sighting_name, cause_text, each_text, reply_text, garbled_text};
 ghost use Rattle.rdm_findings.specs.FindingText.{same_why, off_advice, same_text, own_text, other_bytes};
-ghost use Rattle.rdm_findings.specs.FindingText.{both_text, then_text, why_text, unacked_text};
-ghost use Rattle.rdm_findings.specs.FindingText.{garbled_finding, asked_uid, of_garbled};
+ghost use Rattle.rdm_findings.specs.FindingText.{both_text, then_text, why_text, unacked_text, wrong_text};
+ghost use Rattle.rdm_findings.specs.FindingText.{garbled_found, garbled_finding, asked_uid, of_garbled};
 ghost use Rattle.rdm_findings.specs.Forms.{finding};
 
+use crate::cause::Cause;
 use crate::flaw::{Flaw, write_flaw};
 use crate::form::{About, Form, Judgement, begin, end};
 use crate::head::RunHead;
@@ -20,11 +21,12 @@ pub(crate) fn write_garbled(
     text: &mut Vec<u8>,
     form: Form,
     head: &RunHead,
+    cause: Cause,
     exchanges: &[Exchange],
     garbled: Option<Sighting>,
 ) -> Result<(), AllocError>
     ensures { OnOk result (text.new.items ≡ text.old.items
-        ++ garbled_finding form head.now.start head.now.flaw exchanges.now garbled) }
+        ++ garbled_finding form head.now.start cause head.now.flaw exchanges.now garbled) }
 {
     let Some(first) = garbled else {
         return Ok(());
@@ -36,6 +38,7 @@ pub(crate) fn write_garbled(
                 form,
                 head.start.number(first.at),
                 first.more as u64,
+                cause,
                 head.flaw,
                 &exchange.asked,
                 &exchange.heard,
@@ -50,16 +53,17 @@ fn write_found(
     form: Form,
     number: u64,
     more: u64,
+    cause: Cause,
     flaw: Option<Flaw>,
     asked: &Asked,
     heard: &Heard,
 ) -> Result<(), AllocError>
     ensures { OnOk result (text.new.items ≡ text.old.items ++ finding form (of_garbled number asked.now)
-        (sighting_name number more ++ garbled_text flaw asked.now heard.now)) }
+        (sighting_name number more ++ garbled_text cause flaw asked.now heard.now)) }
 {
     begin(text, form, &about(number, asked))?;
     write_sighting(text, number, more)?;
-    write_reason(text, flaw, asked, heard)?;
+    write_reason(text, cause, flaw, asked, heard)?;
     end(text, form)
 }
 
@@ -86,35 +90,48 @@ fn asked_uid(asked: &Asked) -> Option<Uid>
 
 fn write_reason(
     text: &mut Vec<u8>,
+    cause: Cause,
     flaw: Option<Flaw>,
     asked: &Asked,
     heard: &Heard,
 ) -> Result<(), AllocError>
-    ensures { OnOk result (text.new.items ≡ text.old.items ++ garbled_text flaw asked.now heard.now) }
+    ensures { OnOk result (text.new.items ≡ text.old.items ++ garbled_text cause flaw asked.now heard.now) }
 {
     match asked {
-        Asked::Branch { lo, .. } => write_from(text, *lo, heard),
-        Asked::Mute(uid) => write_unmuted(text, flaw, *uid),
+        Asked::Branch { lo, .. } => write_from(text, cause, flaw, *lo, heard),
+        Asked::Mute(uid) => write_unmuted(text, cause, flaw, *uid),
         _ => Ok(()),
     }
 }
 
-fn write_from(text: &mut Vec<u8>, uid: Uid, heard: &Heard) -> Result<(), AllocError>
+fn write_from(
+    text: &mut Vec<u8>,
+    cause: Cause,
+    flaw: Option<Flaw>,
+    uid: Uid,
+    heard: &Heard,
+) -> Result<(), AllocError>
     ensures { OnOk result (text.new.items ≡ text.old.items
-        ++ (codes ": " ++ uid_text uid ++ own_text uid heard.now)) }
+        ++ (codes ": " ++ uid_text uid ++ own_text cause flaw uid heard.now)) }
 {
     write(text, ": ")?;
     write_uid(text, uid)?;
-    write_own(text, uid, heard)
+    write_own(text, cause, flaw, uid, heard)
 }
 
 // Its own text, or other bytes.
-fn write_own(text: &mut Vec<u8>, uid: Uid, heard: &Heard) -> Result<(), AllocError>
-    ensures { OnOk result (text.new.items ≡ text.old.items ++ own_text uid heard.now) }
+fn write_own(
+    text: &mut Vec<u8>,
+    cause: Cause,
+    flaw: Option<Flaw>,
+    uid: Uid,
+    heard: &Heard,
+) -> Result<(), AllocError>
+    ensures { OnOk result (text.new.items ≡ text.old.items ++ own_text cause flaw uid heard.now) }
 {
     match heard {
         Heard::One(read) if *read == uid => write_same(text, uid),
-        _ => write_other_bytes(text, uid, heard),
+        _ => write_other_bytes(text, cause, flaw, uid, heard),
     }
 }
 
@@ -147,21 +164,30 @@ fn off_advice(uid: Uid) -> &'static str
     }
 }
 
-fn write_unmuted(text: &mut Vec<u8>, flaw: Option<Flaw>, uid: Uid) -> Result<(), AllocError>
+fn write_unmuted(
+    text: &mut Vec<u8>,
+    cause: Cause,
+    flaw: Option<Flaw>,
+    uid: Uid,
+) -> Result<(), AllocError>
     ensures { OnOk result (text.new.items ≡ text.old.items
-        ++ (codes ": bytes came after a mute of " ++ uid_text uid ++ unacked_text uid flaw)) }
+        ++ (codes ": bytes came after a mute of " ++ uid_text uid ++ unacked_text cause uid flaw)) }
 {
     write(text, ": bytes came after a mute of ")?;
     write_uid(text, uid)?;
-    write_unacked(text, uid, flaw)
+    write_unacked(text, cause, uid, flaw)
 }
 
-fn write_unacked(text: &mut Vec<u8>, uid: Uid, flaw: Option<Flaw>) -> Result<(), AllocError>
-    ensures { OnOk result (text.new.items ≡ text.old.items ++ unacked_text uid flaw) }
+fn write_unacked(
+    text: &mut Vec<u8>,
+    cause: Cause,
+    uid: Uid,
+    flaw: Option<Flaw>,
+) -> Result<(), AllocError>
+    ensures { OnOk result (text.new.items ≡ text.old.items ++ unacked_text cause uid flaw) }
 {
     write(text, " that don't acknowledge it")?;
-    write_why(text, flaw)?;
-    write_each(text, uid)
+    write_wrong(text, cause, flaw, uid)
 }
 
 // Why they don't, if that is known.
@@ -177,34 +203,59 @@ fn write_why(text: &mut Vec<u8>, flaw: Option<Flaw>) -> Result<(), AllocError>
     }
 }
 
-fn write_other_bytes(text: &mut Vec<u8>, uid: Uid, heard: &Heard) -> Result<(), AllocError>
-    ensures { OnOk result (text.new.items ≡ text.old.items ++ other_bytes uid heard.now) }
+fn write_other_bytes(
+    text: &mut Vec<u8>,
+    cause: Cause,
+    flaw: Option<Flaw>,
+    uid: Uid,
+    heard: &Heard,
+) -> Result<(), AllocError>
+    ensures { OnOk result (text.new.items ≡ text.old.items ++ other_bytes cause flaw uid heard.now) }
 {
     write(
         text,
-        " alone was asked, and bytes came that aren't its answer",
+        " alone was asked, and bytes came that are no right answer",
     )?;
-    write_reply(text, uid, heard)
+    write_reply(text, cause, flaw, uid, heard)
 }
 
 // What the bytes read as after a branch of this UID, and what to do.
-fn write_reply(text: &mut Vec<u8>, uid: Uid, heard: &Heard) -> Result<(), AllocError>
-    ensures { OnOk result (text.new.items ≡ text.old.items ++ reply_text uid heard.now) }
+fn write_reply(
+    text: &mut Vec<u8>,
+    cause: Cause,
+    flaw: Option<Flaw>,
+    uid: Uid,
+    heard: &Heard,
+) -> Result<(), AllocError>
+    ensures { OnOk result (text.new.items ≡ text.old.items ++ reply_text cause flaw uid heard.now) }
 {
     match heard {
-        Heard::One(read) => write_spelt(text, uid, *read),
-        _ => write_each(text, uid),
+        Heard::One(read) => write_spelt(text, cause, flaw, uid, *read),
+        _ => write_wrong(text, cause, flaw, uid),
     }
 }
 
+// Why the bytes are no right answer, and what to do.
+fn write_wrong(
+    text: &mut Vec<u8>,
+    cause: Cause,
+    flaw: Option<Flaw>,
+    uid: Uid,
+) -> Result<(), AllocError>
+    ensures { OnOk result (text.new.items ≡ text.old.items ++ wrong_text cause flaw uid) }
+{
+    write_why(text, flaw)?;
+    write_each(text, cause, uid)
+}
+
 // What to do, whatever the bytes are.
-fn write_each(text: &mut Vec<u8>, uid: Uid) -> Result<(), AllocError>
-    ensures { OnOk result (text.new.items ≡ text.old.items ++ each_text uid) }
+fn write_each(text: &mut Vec<u8>, cause: Cause, uid: Uid) -> Result<(), AllocError>
+    ensures { OnOk result (text.new.items ≡ text.old.items ++ each_text cause uid) }
 {
     if uid.is_broadcast() {
         write(text, EACH_HALF)
     } else {
-        write_off(text, uid)
+        write_cause(text, cause, uid)
     }
 }
 
@@ -212,24 +263,67 @@ fn write_each(text: &mut Vec<u8>, uid: Uid) -> Result<(), AllocError>
 const EACH_HALF: &str =
     "; a rule was broken, by a device or noise: split the line and discover each half";
 
+// Who is probably to blame, and what to do.
+fn write_cause(text: &mut Vec<u8>, cause: Cause, uid: Uid) -> Result<(), AllocError>
+    ensures { OnOk result (text.new.items ≡ text.old.items ++ cause_text cause uid) }
+{
+    match cause {
+        Cause::Noise => write_noise(text, uid),
+        Cause::Device => write_device(text, uid),
+        Cause::Unclear => write_off(text, uid),
+    }
+}
+
+fn write_noise(text: &mut Vec<u8>, uid: Uid) -> Result<(), AllocError>
+    ensures { OnOk result (text.new.items ≡ text.old.items
+        ++ (codes "; a rule was broken, probably by noise: " ++ uid_text uid ++ codes
+        " isn't listed, and all listed devices were found; if it happens again, check the cable and its terminator")) }
+{
+    write(text, "; a rule was broken, probably by noise: ")?;
+    write_uid(text, uid)?;
+    write(text, NOT_LISTED)
+}
+
+const NOT_LISTED: &str =
+    " isn't listed, and all listed devices were found; if it happens again, check the cable and its terminator";
+
+fn write_device(text: &mut Vec<u8>, uid: Uid) -> Result<(), AllocError>
+    ensures { OnOk result (text.new.items ≡ text.old.items
+        ++ (codes "; a rule was broken, probably by " ++ uid_text uid ++ codes
+        " or its wiring: take it off the line and discover again; if your rig has no such device, split the line")) }
+{
+    write(text, "; a rule was broken, probably by ")?;
+    write_uid(text, uid)?;
+    write(text, OR_WIRING)
+}
+
+const OR_WIRING: &str =
+    " or its wiring: take it off the line and discover again; if your rig has no such device, split the line";
+
 fn write_off(text: &mut Vec<u8>, uid: Uid) -> Result<(), AllocError>
     ensures { OnOk result (text.new.items ≡ text.old.items
         ++ (codes "; a rule was broken, by a device or noise: take " ++ uid_text uid
-        ++ codes " off the line and discover again; if it isn't there, split the line")) }
+        ++ codes " off the line and discover again; if your rig has no such device, split the line")) }
 {
     write(text, "; a rule was broken, by a device or noise: take ")?;
     write_uid(text, uid)?;
     write(
         text,
-        " off the line and discover again; if it isn't there, split the line",
+        " off the line and discover again; if your rig has no such device, split the line",
     )
 }
 
-fn write_spelt(text: &mut Vec<u8>, uid: Uid, read: Uid) -> Result<(), AllocError>
-    ensures { OnOk result (text.new.items ≡ text.old.items ++ reply_text uid (Heard.One read)) }
+fn write_spelt(
+    text: &mut Vec<u8>,
+    cause: Cause,
+    flaw: Option<Flaw>,
+    uid: Uid,
+    read: Uid,
+) -> Result<(), AllocError>
+    ensures { OnOk result (text.new.items ≡ text.old.items ++ reply_text cause flaw uid (Heard.One read)) }
 {
     if read.is_broadcast() {
-        write_each(text, uid)
+        write_each(text, cause, uid)
     } else {
         write_both(text, uid, read)
     }

@@ -117,7 +117,7 @@ fn write_wrong(text: &mut Vec<u8>, uid: Uid, number: u64) -> Result<(), AllocErr
 {
     write(
         text,
-        " alone was asked, and bytes came that aren't its answer: ",
+        " alone was asked, and bytes came that are no right answer: ",
     )?;
     write(text, suspect_advice(uid))?;
     write_place(text, number)
@@ -129,7 +129,7 @@ fn suspect_advice(uid: Uid) -> &'static str
     if uid.is_broadcast() {
         "split the line and discover each half"
     } else {
-        "take it off the line and discover again; if it isn't there, split the line"
+        "take it off the line and discover again; if your rig has no such device, split the line"
     }
 }
 

@@ -53,6 +53,7 @@ pub struct RunHead {
     pub budget: Option<u64>,
     /// How it ended, if the log says so: its fault, or none.
     pub fault: Option<Option<AgentFault>>,
-    /// Why the first bytes that came after a mute and don't acknowledge it don't, if there are any.
+    /// Why the first bytes that are no right answer to a mute, or to a branch of one UID alone, are none; if there are
+    /// any.
     pub flaw: Option<Flaw>,
 }

@@ -1,11 +1,11 @@
 //! The first finding of a run.
 ghost use Rattle.std.specs.Prelude.{◌≡◌, ◌++◌, OnOk, codes, decimal};
-ghost use Rattle.rdm_reports.specs.Report.{fault_text};
+ghost use Rattle.rdm_wire.specs.UidText.{uid_text};
 ghost use Rattle.rdm_findings.specs.FindingText.{name_text, kind_text, search_text, what_text, end_text, outcome_text};
 ghost use Rattle.rdm_findings.specs.FindingText.{sound_text, gap_text, begun_text, certificate_text, decides_gaps};
 ghost use Rattle.rdm_findings.specs.Ends.{end_of};
 ghost use Rattle.rdm_findings.specs.FindingText.{head_text, head_finding, head_sentence, reason_text, spent_text};
-ghost use Rattle.rdm_findings.specs.FindingText.{count_text, missing_text, devices_count};
+ghost use Rattle.rdm_findings.specs.FindingText.{count_text, missing_text, devices_count, early_text};
 ghost use Rattle.rdm_findings.specs.FindingText.{sound_judgement, begun_judgement, run_judgement};
 ghost use Rattle.rdm_findings.specs.Forms.{after_sentence};
 
@@ -248,17 +248,17 @@ fn write_ending(
     }
 }
 
-// The fault, and what it says.
+// That it ended early, and why.
 fn write_explained(
     text: &mut Vec<u8>,
     budget: Option<u64>,
     fault: &AgentFault,
 ) -> Result<(), AllocError>
     ensures { OnOk result (text.new.items ≡ text.old.items
-        ++ (codes ", " ++ fault_text fault.now ++ reason_text budget fault.now)) }
+        ++ (codes ", " ++ early_text fault.now ++ reason_text budget fault.now)) }
 {
     write(text, ", ")?;
-    write_fault(text, fault)?;
+    write_early(text, fault)?;
     write_reason(text, budget, fault)
 }
 
@@ -299,18 +299,16 @@ fn write_budget(text: &mut Vec<u8>, budget: u64) -> Result<(), AllocError>
     write(text, " is used up)")
 }
 
-fn write_fault(text: &mut Vec<u8>, fault: &AgentFault) -> Result<(), AllocError>
-    ensures { OnOk result (text.new.items ≡ text.old.items ++ fault_text fault.now) }
+// That it ended early, and at which UID, if its answers ended it.
+fn write_early(text: &mut Vec<u8>, fault: &AgentFault) -> Result<(), AllocError>
+    ensures { OnOk result (text.new.items ≡ text.old.items ++ early_text fault.now) }
 {
     match fault {
         AgentFault::Corrupt(uid) => {
-            write(text, "fault 1 ")?;
+            write(text, "ended early at ")?;
             write_uid(text, *uid)
         }
-        AgentFault::TooMany => write(text, "fault 2"),
-        AgentFault::Exhausted => write(text, "fault 3"),
-        AgentFault::LineFailed => write(text, "fault 4"),
-        AgentFault::Aborted => write(text, "fault 5"),
+        _ => write(text, "ended early"),
     }
 }
 
@@ -367,7 +365,7 @@ fn sound_text(kind: Option<Kind>, names: &Option<KnownFinding>) -> &'static str
             if is_known_complete(names) {
                 "; no other device is on the line if all follow the rules"
             } else {
-                "; no other device is on the line if all follow the rules, but the run isn't regular"
+                "; no other device is on the line if all follow the rules, but the run isn't regular: discover again"
             }
         }
         None => match kind {

@@ -3,6 +3,7 @@
 #![tactic(auto)]
 
 mod asks;
+mod cause;
 mod device_text;
 mod document;
 mod ending;

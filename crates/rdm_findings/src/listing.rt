@@ -78,8 +78,8 @@ pub(crate) fn culprits_of(
     unmuted(alloc, uids, reported, before_failure(failure, exchanges))
 }
 
-// The exchanges before the one that failed, if one did.
-fn before_failure(failure: Option<usize>, exchanges: &[Exchange]) -> &[Exchange]
+/// The exchanges before the one that failed, if one did.
+pub(crate) fn before_failure(failure: Option<usize>, exchanges: &[Exchange]) -> &[Exchange]
     ensures { result.now ≡ before_failure failure exchanges.now }
 {
     match failure {

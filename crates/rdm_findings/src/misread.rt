@@ -33,7 +33,8 @@ pub(crate) fn misread(exchange: &Exchange) -> Option<Uid>
     }
 }
 
-fn is_misread(uid: Uid, exchange: &Exchange) -> bool
+/// Whether other bytes than its text answered a branch of a UID alone.
+pub(crate) fn is_misread(uid: Uid, exchange: &Exchange) -> bool
     ensures { result ≡ is_misread uid exchange.now }
 {
     match exchange.asked {

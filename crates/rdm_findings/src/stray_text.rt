@@ -117,8 +117,8 @@ fn advice_text(decided: bool, sign: &Sign) -> &'static str
     match (sign, decided) {
         (Sign::Listed(_), true) => ": take it off the line and discover again",
         (Sign::Listed(_), false) => "; or another device sent them",
-        (Sign::Other(_), true) => "; a rule was broken: name it by --present, if it is there",
-        (Sign::Other(_), false) => ": name it by --present, if it is there",
+        (Sign::Other(_), true) => "; a rule was broken: name it by --present, if your rig has it",
+        (Sign::Other(_), false) => ": name it by --present, if your rig has it",
         (Sign::Unread, true) => {
             "; a rule was broken: look for noise, a device that isn't listed, or one that should be silent there"
         }

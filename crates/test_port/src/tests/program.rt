@@ -55,9 +55,10 @@ pub const LOG: Due<'static> = (
     "discovery: 1 exchange, 0 devices; others may be on the line\n\
      exchange 0 should be one of the three unmutes that begin a run\n\
      not settled: a device from 0000:00000000 up may be missing\n\
-     exchange 0: 0000:00000000 alone was asked, and bytes came that aren't its answer; \
+     exchange 0: 0000:00000000 alone was asked, and bytes came that are no right answer: \
+     they don't begin like a discovery reply; \
      a rule was broken, by a device or noise: take 0000:00000000 off the line and discover again; \
-     if it isn't there, split the line\n",
+     if your rig has no such device, split the line\n",
     3,
 );
 
