@@ -1,6 +1,6 @@
 -- A log that isn't explained to its end.
 use Rattle.std.proofs.Common.{◌≡◌, ◌⊎◌, inl, inr, ℕ, Bool, List, [], ◌∷◌, ◌++◌, Option, sym, ap, ◌∙◌, subst}
-use Rattle.std.proofs.Common.{append-nil, true, false, true≢false, Result, Ok, Err, IfOk, IfErr}
+use Rattle.std.proofs.Common.{append-nil, true, false, true≢false, Result, Ok, Err, IfErr, IfOk}
 use Rattle.std.specs.Prelude.{◌+◌, ◌||◌, IsErrAnd, if◌then◌else◌}
 use Rattle.std.specs.Io.KnownBytes.{Appends, Consumes}
 use Rattle.std.proofs.KnownBytes.{Appends-trans}
@@ -36,6 +36,17 @@ stops_last form false true present passing run old new fault some (inr (text, br
     inr (text, broken, said, wrote)
 stops_last form false false present passing run old new fault some (inr stops) = absurd (true≢false (sym some))
 
+pub if_ends_last : (r : Result Bool LogFault) (form : Form) (any has : Bool) (present passing : List ℕ) (run : RunRead)
+    (old new : Option (List ℕ)) → (any || has) ≡ true
+    → IfOk r (λ broken. (text : List ℕ)
+    × AreExplained form any present passing (if has then run ∷ [] else []) text broken × Appends old new text)
+    → IfOk r (λ broken. (text : List ℕ)
+    × EndsLog form present passing any (if has then run ∷ [] else []) text broken × Appends old new text)
+if_ends_last (Ok broken) form true has present passing run old new some ends = ends
+if_ends_last (Ok broken) form false true present passing run old new some ends = ends
+if_ends_last (Ok broken) form false false present passing run old new some ends = absurd (true≢false (sym some))
+if_ends_last (Err fault) form any has present passing run old new some ends = tt
+
 pub if_stops_last : {A : Type 0} (r : Result A LogFault) (form : Form) (any has : Bool) (present passing : List ℕ)
     (run : RunRead) (old new : Option (List ℕ)) → (any || has) ≡ true
     → IfErr r (StopsAfter (AreExplained form any present passing (if has then run ∷ [] else [])) old new)
@@ -43,28 +54,6 @@ pub if_stops_last : {A : Type 0} (r : Result A LogFault) (form : Form) (any has 
 if_stops_last (Ok x) form any has present passing run old new some stops = tt
 if_stops_last (Err fault) form any has present passing run old new some stops =
     stops_last form any has present passing run old new fault some stops
-
--- the text of the runs at the end of such a log
-ends_last : (form : Form) (any has : Bool) (present passing : List ℕ) (run : RunRead) (old new : Option (List ℕ))
-    (broken : Bool)
-    → (any || has) ≡ true
-    → (text : List ℕ) × AreExplained form any present passing (if has then run ∷ [] else []) text broken
-    × Appends old new text
-    → (text : List ℕ) × EndsLog form present passing any (if has then run ∷ [] else []) text broken
-    × Appends old new text
-ends_last form true has present passing run old new broken some (text, said, wrote) = (text, said, wrote)
-ends_last form false true present passing run old new broken some (text, said, wrote) = (text, said, wrote)
-ends_last form false false present passing run old new broken some ends = absurd (true≢false (sym some))
-
-pub if_ends_last : {E : Type 0} (r : Result Bool E) (form : Form) (any has : Bool) (present passing : List ℕ)
-    (run : RunRead) (old new : Option (List ℕ)) → (any || has) ≡ true
-    → IfOk r (λ broken. (text : List ℕ)
-    × AreExplained form any present passing (if has then run ∷ [] else []) text broken × Appends old new text)
-    → IfOk r (λ broken. (text : List ℕ)
-    × EndsLog form present passing any (if has then run ∷ [] else []) text broken × Appends old new text)
-if_ends_last (Err fault) form any has present passing run old new some ends = tt
-if_ends_last (Ok broken) form any has present passing run old new some ends =
-    ends_last form any has present passing run old new broken some ends
 
 -- a text, and then nothing
 then_nothing : (a b c : Option (List ℕ)) (text : List ℕ) → Appends a b text → Appends b c [] → Appends a c text
