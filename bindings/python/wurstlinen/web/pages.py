@@ -25,7 +25,7 @@ from ..shared.client import SharedClient
 from ..shared.listening import made_folder
 from ..shared.words import BadRequest, Keys, object_of
 from .details import Details
-from .door import HOUSEKEEPING_SECONDS, MOST_STREAMS, Door, Handler, Refusal
+from .door import MOST_STREAMS, Door, Handler, Refusal
 from .hands import Board, Hands, failure_of
 from .plans import Plans
 from .rig import Rig
@@ -36,7 +36,6 @@ FILES = {"/": ("page.html", PAGE), "/page.css": ("page.css", STYLE),
          **{f"/{name}.js": (f"{name}.js", SCRIPT)
             for name in ("app", "server", "dom", "fixtures", "fixture", "slots", "file", "discovery", "line")}}
 API, PICTURE, EVENTS = "/api/", "/picture/", "/api/events"
-BEARER = "Bearer "
 # The page that explains a discovery runs its own scripts, as if it came from nowhere.
 PICTURE_HEADERS = {"Content-Security-Policy": "sandbox allow-scripts; frame-ancestors 'self'"}
 LOOPBACK = "127.0.0.1"
@@ -56,9 +55,9 @@ class Tokens:
         return hashlib.sha256(self.using.encode()).hexdigest()[:2 * TOKEN_BYTES]
 
     def role(self, said: str) -> Optional[str]:
-        """What somebody with this token may do; None: nothing."""
+        """What somebody with this header may do; None: nothing."""
         return next((role for role, token in ((USES, self.using), (LOOKS, self.looking))
-                     if hmac.compare_digest(said.encode(), token.encode())), None)
+                     if hmac.compare_digest(said.encode(), f"Bearer {token}".encode())), None)
 
 
 def kept(line: str, wants_new: bool) -> Tokens:
@@ -97,7 +96,7 @@ class Pages:
         threading.Thread(target=self.plans.follow, daemon=True).start()
         self.watcher.start()
         try:
-            self.door.serve_forever(HOUSEKEEPING_SECONDS)
+            self.door.serve_forever()
         finally:
             self.board.end()
             self.watcher.end()
@@ -105,8 +104,7 @@ class Pages:
 
     def role_of(self, handler: Handler) -> Optional[str]:
         """What whoever asks may do."""
-        said = handler.headers.get("Authorization") or ""
-        return self.tokens.role(said[len(BEARER):]) if said.startswith(BEARER) else None
+        return self.tokens.role(handler.headers.get("Authorization") or "")
 
     def answer(self, handler: Handler, body: bytes) -> None:
         """Answers a request. Raises Refusal."""
@@ -183,7 +181,7 @@ def arguments_of(call: Callable[..., object], keys: Keys) -> Keys:
     found = {}
     for name, each in inspect.signature(call).parameters.items():
         value = keys.get(name, each.default)
-        kind, fault = FORMS[each.annotation]
+        kind, fault = FORMS.get(each.annotation, (str, "isn't a text"))
         if not isinstance(value, kind):
             raise BadRequest(f"{name} {fault}")
         try:
@@ -193,7 +191,6 @@ def arguments_of(call: Callable[..., object], keys: Keys) -> Keys:
     return found
 
 
-# What JSON has for each type of parameters, and what is said of anything else.
-FORMS: Mapping[str, Tuple[type, str]] = {
-    "bool": (bool, "is neither true nor false"), "str": (str, "isn't a text"), "Uid": (str, "isn't a text"),
-    "Sequence[str]": (list, "isn't a list")}
+# What JSON has for types of parameters that aren't texts there, and what is said of anything else.
+FORMS: Mapping[str, Tuple[type, str]] = {"bool": (bool, "is neither true nor false"),
+                                         "Sequence[str]": (list, "isn't a list")}
