@@ -20,7 +20,8 @@ Front left ({LEFT}): personality 1 Basic, 7 slots → 2 Extended, 14 slots
 Front left ({LEFT}): address 1 → 20
 Front left ({LEFT}): label Front left → Wash 1
 They make no slots overlap.
-They end this: “Front left” 1-7 overlaps {HOUSE} “House lights” 1; “Front left” 1-7 overlaps {SECOND} “Dimmer, second half” 1.
+They end this: “Front left” 1-7 overlaps {HOUSE} “House lights” 1; \
+“Front left” 1-7 overlaps {SECOND} “Dimmer, second half” 1.
 1 missing fixture of the file: not changed."""
 
 

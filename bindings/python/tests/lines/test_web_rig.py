@@ -62,7 +62,8 @@ class Changes(TestCase):
             events.until(lambda parts: len(parts.get(f"fixture/{LEFT}", {}).get("personalities", [])) == 2)
             # Front right begins at 8.
             answer = web.call("change", uid=LEFT, column="personality", value="2")
-            self.assertIn(f"after this, {LEFT} “Front left” 1-14 overlaps {RIGHT} “Front right” 8-14", answer["problems"])
+            self.assertIn(f"after this, {LEFT} “Front left” 1-14 overlaps {RIGHT} “Front right” 8-14",
+                          answer["problems"])
             web.call("change", uid=LEFT, column="personality", value="2", force=True)
             parts = events.until(lambda parts: parts[f"fixture/{LEFT}"]["slots"] == 14)
             self.assertEqual(parts[f"fixture/{LEFT}"]["personality_name"], "Extended")
