@@ -155,8 +155,7 @@ class Rig:
 
     def read_again(self) -> None:
         """Has devices asked again that were asked in vain a while ago."""
-        before = time.monotonic() - AGAIN_SECONDS
-        self.read_those(lambda entry: entry.failed_at is not None and entry.failed_at < before)
+        self.read_those(lambda each: each.failed_at is not None and each.failed_at + AGAIN_SECONDS < time.monotonic())
 
     def read_those(self, is_wanted: Callable[[Entry], bool], is_urgent: bool = False) -> None:
         """Has devices asked again."""
