@@ -98,7 +98,6 @@ class Hands:
         self._busy: Set[str] = set()
         self._has_changed = threading.Condition()
         self._has_ended = False
-        # The clients of the threads, by their numbers.
         self._clients: Dict[int, SharedClient] = {}
         self._threads = [threading.Thread(target=self._run, args=(number,), daemon=True) for number in range(COUNT)]
         for thread in self._threads:

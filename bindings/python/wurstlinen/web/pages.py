@@ -54,8 +54,9 @@ class Tokens:
         """The token for looking, from which nobody can tell the other one."""
         return hashlib.sha256(self.using.encode()).hexdigest()[:2 * TOKEN_BYTES]
 
-    def role(self, said: str) -> Optional[str]:
-        """What somebody with this header may do; None: nothing."""
+    def role(self, handler: Handler) -> Optional[str]:
+        """What whoever asks may do; None: nothing."""
+        said = handler.headers.get("Authorization") or ""
         return next((role for role, token in ((USES, self.using), (LOOKS, self.looking))
                      if hmac.compare_digest(said.encode(), f"Bearer {token}".encode())), None)
 
@@ -89,7 +90,7 @@ class Pages:
             "change": rig.set, "undo": rig.undo, "identify": rig.identify, "forget": rig.forget, "show": details.read,
             "set": details.set, "discover": self.discoveries.begin, "pause": self.watcher.pause,
             "save": plans.save, "load": plans.load, "unload": plans.unload, "apply": plans.apply}
-        door.answer, door.admits = self.answer, lambda handler: self.role_of(handler) is not None
+        door.answer, door.admits = self.answer, lambda handler: tokens.role(handler) is not None
 
     def serve(self) -> None:
         """Serves what comes through the door, until that is shut."""
@@ -101,10 +102,6 @@ class Pages:
             self.board.end()
             self.watcher.end()
             self.rig.hands.end()
-
-    def role_of(self, handler: Handler) -> Optional[str]:
-        """What whoever asks may do."""
-        return self.tokens.role(handler.headers.get("Authorization") or "")
 
     def answer(self, handler: Handler, body: bytes) -> None:
         """Answers a request. Raises Refusal."""
@@ -123,7 +120,7 @@ class Pages:
 
     def _api(self, handler: Handler, path: str, body: bytes) -> None:
         check_origin(handler)
-        role = self.role_of(handler)
+        role = self.tokens.role(handler)
         if role is None:
             raise Refusal(401, "this link isn't valid any more: ask whoever started the page for the new one")
         if (handler.command, path) == ("GET", EVENTS):
