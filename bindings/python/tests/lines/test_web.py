@@ -20,7 +20,8 @@ Front left ({LEFT}): personality 1 Basic, 7 slots → 2 Extended, 14 slots
 Front left ({LEFT}): address 1 → 20
 Front left ({LEFT}): label Front left → Wash 1
 They make no slots overlap.
-They end this: Front left 1-7 overlaps {HOUSE} House lights 1; Front left 1-7 overlaps {SECOND} Dimmer, second half 1.
+They end this: “Front left” 1-7 overlaps {HOUSE} “House lights” 1; \
+“Front left” 1-7 overlaps {SECOND} “Dimmer, second half” 1.
 1 missing fixture of the file: not changed."""
 
 
@@ -82,7 +83,7 @@ class Fixtures(BrowserTestCase):
             seen.type("99")
             seen.key("Enter")
             seen.until("document.querySelector('.message')")
-            self.assertIn("99-105 overlaps 454e:0a000017 Back truss 100", seen.texts(".message p")[0])
+            self.assertIn("99-105 overlaps 454e:0a000017 “Back truss” 100", seen.texts(".message p")[0])
             # The question is where keys are, and then they are where they were.
             self.assertEqual(seen.page.value("document.activeElement.textContent"), "Cancel")
             seen.key("Enter")
@@ -496,7 +497,7 @@ class OtherViews(BrowserTestCase):
         self.assertIn("Front right: 8-14 → 99-105, overlaps “Back truss (missing)”. Enter asks; ",
                       seen.texts(".hint")[0])
         seen.key("Enter")
-        seen.until("document.querySelector('.message')?.innerText.includes('Back truss (missing) 100')")
+        seen.until("document.querySelector('.message')?.innerText.includes('“Back truss (missing)” 100')")
 
     @at_each_size
     def test_who_broke_the_rules_and_who_is_missing(self, size: Tuple[int, int]) -> None:

@@ -49,20 +49,21 @@ class Changes(TestCase):
             answer = web.call("change", uid=RIGHT, column="address", value="97")
             self.assertEqual(answer["made"], 0)
             self.assertEqual(answer["problems"],
-                             [f"after this, {RIGHT} Front right 97-103 overlaps {BACK} Back truss 100"])
+                             [f"after this, {RIGHT} “Front right” 97-103 overlaps {BACK} “Back truss” 100"])
             answer = web.call("change", uid=RIGHT, column="address", value="97", force=True)
             self.assertEqual(answer["made"], 1)
             parts = events.until(lambda parts: any(each["uid"] == RIGHT for each in parts.get("problems", [])))
             self.assertEqual(parts[f"fixture/{RIGHT}"]["last"], 103)
             self.assertEqual(web.call("change", uid=RIGHT, column="address", value="510")["problems"],
-                             [f"after this, {RIGHT} Front right 510-516 ends after 512"])
+                             [f"after this, {RIGHT} “Front right” 510-516 ends after 512"])
 
     def test_a_personality_changes_slots(self) -> None:
         with five() as (web, _), web.follow() as events:
             events.until(lambda parts: len(parts.get(f"fixture/{LEFT}", {}).get("personalities", [])) == 2)
             # Front right begins at 8.
             answer = web.call("change", uid=LEFT, column="personality", value="2")
-            self.assertIn(f"after this, {LEFT} Front left 1-14 overlaps {RIGHT} Front right 8-14", answer["problems"])
+            self.assertIn(f"after this, {LEFT} “Front left” 1-14 overlaps {RIGHT} “Front right” 8-14",
+                          answer["problems"])
             web.call("change", uid=LEFT, column="personality", value="2", force=True)
             parts = events.until(lambda parts: parts[f"fixture/{LEFT}"]["slots"] == 14)
             self.assertEqual(parts[f"fixture/{LEFT}"]["personality_name"], "Extended")
@@ -90,7 +91,7 @@ class Changes(TestCase):
             events.until(lambda parts: parts.get(f"fixture/{RIGHT}", {}).get("address") == 100)
             answer = web.call("undo")
             self.assertEqual((answer["made"], answer["problems"]),
-                             (0, [f"after this, {RIGHT} Front right 100-106 overlaps {BACK} Back truss 100"]))
+                             (0, [f"after this, {RIGHT} “Front right” 100-106 overlaps {BACK} “Back truss” 100"]))
             self.assertEqual(web.call("undo", force=True)["made"], 1)
             events.until(lambda parts: parts[f"fixture/{BACK}"]["address"] == 100 and parts.get("undo") is None)
 

@@ -6,9 +6,9 @@ from dataclasses import dataclass, field
 from typing import Any, Callable, Dict, Iterator, List, Mapping, Optional, Sequence
 
 from .. import Uid
-from .csv_files import COLUMNS, LABEL, MODEL, SLOTS, UID, Row, differs, read, written
+from .csv_files import LABEL, SLOTS, Row, differs, read, written
 from .discovery_log import Sink, explained, sink_of
-from .fixtures import ADDRESS_FIELD, FOOTPRINT_FIELD, Fixture, look_at_all
+from .fixtures import ADDRESS_FIELD, Fixture, look_at_all
 from .guarding import ADDRESS, PERSONALITY, patched, problems_of
 from .output import DONE, FAILED, REFUSED, Output, aligned
 from .patching import SLOT_COUNT
@@ -117,20 +117,6 @@ def changed(rows: Sequence[Row], found: Sequence[Fixture]) -> Iterator[Differenc
         for column, value in values.items():
             if value is not None and differs(column, str(value), row.values[column]):
                 yield difference(row, fixture, column, str(value))
-
-
-def value_in(fixture: Fixture, column: str) -> Optional[str]:
-    """What a device has in a column; None if it isn't known."""
-    value = VALUES[column](fixture)
-    return None if value is None else str(value)
-
-
-def saved(fixture: Fixture) -> Dict[str, str]:
-    """A device as `save` writes it. What isn't known stays empty."""
-    values = {**{column: value_in(fixture, column) for column in COLUMNS}, MODEL: fixture.model or None,
-              SLOTS: fixture.number(FOOTPRINT_FIELD)}
-    return {UID: str(fixture.uid), **{column: "" if value is None else written(str(value))
-                                      for column, value in values.items()}}
 
 
 def difference(row: Row, fixture: Fixture, column: str, found: str) -> Difference:

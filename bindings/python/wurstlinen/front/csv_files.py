@@ -60,11 +60,6 @@ class Change:
         """The change, for people."""
         return f"{self.uid}  {self.column}  {written(self.before)} -> {written(self.after)}"
 
-    @property
-    def reversed(self) -> Change:
-        """What takes the change back."""
-        return Change(self.uid, self.column, self.after, self.before)
-
 
 def show(change: Change, output: Output) -> None:
     """Prints a change."""

@@ -186,11 +186,9 @@ def values_of(work: Work, fixture: Fixture, name: str, data: bytes = b"") -> Opt
     return reading.values
 
 
-def identifies_of(work: Work, uid: Uid) -> Optional[bool]:
-    """Whether a device shows itself; None if it doesn't say."""
-    values = values_of(work, Fixture(uid), "identify_device") or {}
-    found = next(iter(values.values()), None)
-    return found if isinstance(found, bool) else None
+def identifies_of(work: Work, uid: Uid, otherwise: bool = False) -> bool:
+    """Whether a device shows itself, or something else if it doesn't say."""
+    return (values_of(work, Fixture(uid), "identify_device") or {}).get("identify_state", otherwise) is True
 
 
 def note_of(name: str, failure: Failure) -> List[str]:

@@ -56,17 +56,14 @@ export const busyAs = (name, ...names) => ({ class: classes(...names, busy.has(n
 
 // The answer to a call; nothing if it is a fault, which is said.
 export async function asked(name, keys) {
-    const answer = await call(name, keys);
-    return answer.error ? void say(fixtures.named(answer.error), { isBad: true }) : answer;
+    const answer = await call(name, keys), fault = answer.error || answer.failures?.join("\n");
+    return fault ? void say(fixtures.named(fault), { isBad: true }) : answer;
 }
 
 // Does something, says how it ended, and returns whether it was done. If slots would overlap, that is a question first.
 export async function act(name, keys, done = "") {
-    const answer = await asked(name, keys);
-    const { made = 0, failures = [], problems = [] } = answer ?? {};
-    if (failures.length) {
-        say(fixtures.named(failures.join("\n")), { isBad: true });
-    } else if (problems.length && !made) {
+    const answer = await asked(name, keys), { made = 0, problems = [] } = answer ?? {};
+    if (problems.length && !made) {
         const found = fixtureOf(keys.uid), whose = fixtures.nameOf(found);
         const free = keys.column === "address" ? fixtures.freeFrom(found, Number(keys.value)) : 0;
         const instead = { text: `Set ${whose} to ${free}, the next free address`, act: () => act(name, { ...keys,
@@ -77,7 +74,7 @@ export async function act(name, keys, done = "") {
     } else if (answer && done) {
         say(done);
     }
-    return Boolean(answer) && !failures.length && (made > 0 || !problems.length);
+    return Boolean(answer) && (made > 0 || !problems.length);
 }
 
 function statusText(now) {

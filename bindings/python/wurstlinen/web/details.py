@@ -10,8 +10,6 @@ from ..front.pids import field_keys
 from ..front.requests import data_of
 from ..front.showing import CHOICES, Shown
 from ..front.work import Work
-from ..parameters import Parameter
-from ..parameters.decoding import Values
 from ..parameters.words import name_of
 from .hands import Board
 from .rig import Rig
@@ -23,20 +21,18 @@ ELSEWHERE = ("device_label", "dmx_start_address", "dmx_personality", "identify_d
 
 
 def forms_of(shown: Shown) -> Dict[str, Dict[str, Any]]:
-    """How what a device supports is set, by the titles of its rows."""
-    return {title: form_of(each, shown.values.get(title, {})) for title, each in shown.parameters.items()
-            if each.set is not None and each != raw_parameter(each.number) and each.name not in ELSEWHERE}
-
-
-def form_of(parameter: Parameter, values: Values) -> Dict[str, Any]:
-    """How a parameter is set: its fields, with what they have now."""
-    fields = parameter.set.request if parameter.set is not None else ()
-    # The number of a list's entry that is in use has another name where it is set.
-    now = list(values.values())[:1] if parameter.number in CHOICES else []
-    return {"parameter": parameter.name, "about": parameter.about,
-            "fields": [field_keys(field, now[0] if now else values.get(field.name)) for field in fields],
-            # What can only be set does something.
-            "acts": parameter.get is None or not fields}
+    """How what a device supports is set, by the titles of its rows: the fields, with what they have now."""
+    forms = {}
+    for title, each in shown.parameters.items():
+        if each.set is not None and each != raw_parameter(each.number) and each.name not in ELSEWHERE:
+            fields, values = each.set.request, shown.values.get(title, {})
+            # The number of a list's entry that is in use has another name where it is set.
+            now = next(iter(values.values()), None) if each.number in CHOICES else None
+            forms[title] = {"parameter": each.name, "about": each.about,
+                            "fields": [field_keys(field, values.get(field.name, now)) for field in fields],
+                            # What can only be set does something.
+                            "acts": each.get is None or not fields}
+    return forms
 
 
 class Details:

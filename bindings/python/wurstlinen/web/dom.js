@@ -13,10 +13,8 @@ export const plural = (count, what) => (count === 1 ? `1 ${what}` : `${count} ${
 export const classes = (...names) => names.filter(Boolean).join(" ");
 
 function set(element, name, value) {
-    if (name.startsWith("on")) {
+    if (name.startsWith("on") || name === "style") {
         element[name] = value;
-    } else if (name === "style") {
-        element.style.cssText = value;
     } else if (value === null || value === false) {
         element.removeAttribute(name);
     } else {

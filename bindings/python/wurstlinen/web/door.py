@@ -20,10 +20,8 @@ MOST_STREAMS = 32
 MOST_HEAD_BYTES = 16_384
 MOST_BODY_BYTES = 1_100_000
 MOST_DIGITS = 20
-# How long a request may take to come, or a connection be idle; and how long a reader may take for what it gets.
+# How long a request may take to come, a connection be idle, and a reader take for what it gets.
 REQUEST_SECONDS = 10.0
-READER_SECONDS = 10.0
-HOUSEKEEPING_SECONDS = 0.5
 HEADERS = {
     "Content-Security-Policy": "default-src 'none'; script-src 'self'; style-src 'self'; connect-src 'self'; "
                                "frame-src 'self'; img-src data:; base-uri 'none'; form-action 'none'; "
@@ -53,7 +51,7 @@ class Stream(io.BufferedReader):
 class Handler(BaseHTTPRequestHandler):
     """A connection, which has one request. `Door.answer` answers it."""
 
-    timeout = READER_SECONDS
+    timeout = REQUEST_SECONDS
     server: Door
     rfile: Stream
     server_version, sys_version = "wurstlinen", ""
@@ -62,16 +60,11 @@ class Handler(BaseHTTPRequestHandler):
         super().setup()
         self.rfile = Stream(self.rfile.detach())
 
-    def handle(self) -> None:
-        """Answers a request, unless the connection ends."""
-        with contextlib.suppress(OSError, ValueError):
-            super().handle()
-
     def do_GET(self) -> None:
         """Answers a request, perhaps with a body."""
         try:
             body = self._body()
-            self.server.note_request(self.connection)
+            self.server.connections[self.connection] = math.inf
             self.server.answer(self, body)
         except Refusal as refusal:
             status, text = refusal.args
@@ -121,41 +114,31 @@ class Door(socketserver.ThreadingTCPServer):
     def __init__(self, address: Tuple[str, int]) -> None:
         self.answer: Callable[[Handler, bytes], None]
         self.admits: Callable[[Handler], bool]
-        self._changing = threading.Lock()
         # The connections, the oldest first, and since when their request is awaited; if it has come, for ever later.
+        # Threads change it in single steps.
         self.connections: Dict[socket.socket, float] = {}
         self.streams = threading.BoundedSemaphore(MOST_STREAMS)
         super().__init__(address, Handler)
 
-    def note_request(self, connection: socket.socket) -> None:
-        """The request of a connection has come."""
-        with self._changing:
-            if connection in self.connections:
-                self.connections[connection] = math.inf
-
     def _end_idle(self, since: float, most: int) -> None:
         """Ends connections without a request, which ends their threads: the oldest since then, so many at most."""
-        with self._changing:
-            for connection in [each for each, began in self.connections.items() if began <= since][:most]:
-                del self.connections[connection]
-                with contextlib.suppress(OSError):
-                    connection.shutdown(socket.SHUT_RDWR)
+        for connection in [each for each, began in list(self.connections.items()) if began <= since][:most]:
+            self.connections.pop(connection, None)
+            with contextlib.suppress(OSError):
+                connection.shutdown(socket.SHUT_RDWR)
 
-    def process_request(self, request: Any, client_address: Any) -> None:
-        """Has a connection answered, in place of the oldest idle one if there are too many."""
+    def verify_request(self, request: Any, client_address: Any) -> bool:
+        """Whether a connection is answered: if there are too many, in place of the oldest idle one."""
         if len(self.connections) >= MOST_CONNECTIONS:
             self._end_idle(time.monotonic(), 1)
         if len(self.connections) >= MOST_CONNECTIONS:
-            self.shutdown_request(request)
-            return
-        with self._changing:
-            self.connections[request] = time.monotonic()
-        super().process_request(request, client_address)
+            return False
+        self.connections[request] = time.monotonic()
+        return True
 
     def shutdown_request(self, request: Any) -> None:
         """Ends a connection."""
-        with self._changing:
-            self.connections.pop(request, None)
+        self.connections.pop(request, None)
         super().shutdown_request(request)
 
     def handle_error(self, request: Any, client_address: Any) -> None:

@@ -162,7 +162,9 @@ function rowOf(found) {
         "of-address": editor(found, "address"), slots: slotsOf(found), "of-personality": editor(found, "personality"),
         model: [found.manufacturer, found.model].filter(Boolean).join(" "), uid,
         note: [changeOf(found), missing && mayUse() && button("Remove from the list", () => act("forget", { uid })),
-            make("p", { title: note }, make("span", {}, note), " ", make("small", {}, remarksOf(found).join("; ")))],
+            // Views that have more room say which exchange shows it.
+            make("p", { title: note }, make("span", {}, note.replace(/ \(exchange [^)]*\)/, "")), " ",
+                make("small", {}, remarksOf(found).join("; ")))],
         "of-more": make("a", { href: addressOf("fixture", uid), class: "more",
             "aria-label": `All about ${nameOf(found)}` }, "›") };
     return make("tr", { key: uid, id: uid, class: classes(missing && "missing", identifies && "identifies") },

@@ -98,7 +98,7 @@ class Hands:
         self._busy: Set[str] = set()
         self._has_changed = threading.Condition()
         self._has_ended = False
-        self._clients: List[Optional[SharedClient]] = [None] * COUNT
+        self._clients: Dict[int, SharedClient] = {}
         self._threads = [threading.Thread(target=self._run, args=(number,), daemon=True) for number in range(COUNT)]
         for thread in self._threads:
             thread.start()
@@ -108,7 +108,7 @@ class Hands:
         with self._has_changed:
             self._has_ended = True
             self._has_changed.notify_all()
-        for client in filter(None, self._clients):
+        for client in list(self._clients.values()):
             client.close()
         for thread in self._threads:
             thread.join(END_SECONDS)
@@ -116,7 +116,7 @@ class Hands:
     @property
     def numbers(self) -> Set[int]:
         """The numbers of the clients that these are."""
-        return {client.queue.number for client in self._clients if client is not None}
+        return {client.queue.number for client in list(self._clients.values())}
 
     def do(self, key: str, work: Callable[[Work], Made], is_urgent: bool = True, name: str = "") -> "Future[Made]":
         """Has something done, and returns what will become of it: what it returns, or Failure. With a name, what waits
@@ -160,19 +160,16 @@ class Hands:
 
     def _connected(self, number: int) -> Work:
         """Another connection in place of the one before. Raises LineFailed."""
-        before, self._clients[number] = self._clients[number], None
-        if before is not None:
-            before.close()
+        if number in self._clients:
+            self._clients.pop(number).close()
         client = self._clients[number] = self._connect()
         return shared_work(client, SILENT, None, None, WAIT_SECONDS)
 
 
-def is_alive(client: Optional[SharedClient]) -> bool:
+def is_alive(client: SharedClient) -> bool:
     """Whether the server hasn't ended the connection while it was idle."""
     try:
-        while client is not None and client.queue.connection.receive(0.0):
-            pass
-        return client is not None
+        return bool(client.queue.status())
     except (Fault, LineFailed):
         return False
 

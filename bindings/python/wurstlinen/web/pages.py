@@ -25,7 +25,7 @@ from ..shared.client import SharedClient
 from ..shared.listening import made_folder
 from ..shared.words import BadRequest, Keys, object_of
 from .details import Details
-from .door import HOUSEKEEPING_SECONDS, MOST_STREAMS, Door, Handler, Refusal
+from .door import MOST_STREAMS, Door, Handler, Refusal
 from .hands import Board, Hands, failure_of
 from .plans import Plans
 from .rig import Rig
@@ -36,7 +36,6 @@ FILES = {"/": ("page.html", PAGE), "/page.css": ("page.css", STYLE),
          **{f"/{name}.js": (f"{name}.js", SCRIPT)
             for name in ("app", "server", "dom", "fixtures", "fixture", "slots", "file", "discovery", "line")}}
 API, PICTURE, EVENTS = "/api/", "/picture/", "/api/events"
-BEARER = "Bearer "
 # The page that explains a discovery runs its own scripts, as if it came from nowhere.
 PICTURE_HEADERS = {"Content-Security-Policy": "sandbox allow-scripts; frame-ancestors 'self'"}
 LOOPBACK = "127.0.0.1"
@@ -55,10 +54,11 @@ class Tokens:
         """The token for looking, from which nobody can tell the other one."""
         return hashlib.sha256(self.using.encode()).hexdigest()[:2 * TOKEN_BYTES]
 
-    def role(self, said: str) -> Optional[str]:
-        """What somebody with this token may do; None: nothing."""
+    def role(self, handler: Handler) -> Optional[str]:
+        """What whoever asks may do; None: nothing."""
+        said = handler.headers.get("Authorization") or ""
         return next((role for role, token in ((USES, self.using), (LOOKS, self.looking))
-                     if hmac.compare_digest(said.encode(), token.encode())), None)
+                     if hmac.compare_digest(said.encode(), f"Bearer {token}".encode())), None)
 
 
 def kept(line: str, wants_new: bool) -> Tokens:
@@ -90,23 +90,18 @@ class Pages:
             "change": rig.set, "undo": rig.undo, "identify": rig.identify, "forget": rig.forget, "show": details.read,
             "set": details.set, "discover": self.discoveries.begin, "pause": self.watcher.pause,
             "save": plans.save, "load": plans.load, "unload": plans.unload, "apply": plans.apply}
-        door.answer, door.admits = self.answer, lambda handler: self.role_of(handler) is not None
+        door.answer, door.admits = self.answer, lambda handler: tokens.role(handler) is not None
 
     def serve(self) -> None:
         """Serves what comes through the door, until that is shut."""
         threading.Thread(target=self.plans.follow, daemon=True).start()
         self.watcher.start()
         try:
-            self.door.serve_forever(HOUSEKEEPING_SECONDS)
+            self.door.serve_forever()
         finally:
             self.board.end()
             self.watcher.end()
             self.rig.hands.end()
-
-    def role_of(self, handler: Handler) -> Optional[str]:
-        """What whoever asks may do."""
-        said = handler.headers.get("Authorization") or ""
-        return self.tokens.role(said[len(BEARER):]) if said.startswith(BEARER) else None
 
     def answer(self, handler: Handler, body: bytes) -> None:
         """Answers a request. Raises Refusal."""
@@ -125,7 +120,7 @@ class Pages:
 
     def _api(self, handler: Handler, path: str, body: bytes) -> None:
         check_origin(handler)
-        role = self.role_of(handler)
+        role = self.tokens.role(handler)
         if role is None:
             raise Refusal(401, "this link isn't valid any more: ask whoever started the page for the new one")
         if (handler.command, path) == ("GET", EVENTS):
@@ -183,7 +178,7 @@ def arguments_of(call: Callable[..., object], keys: Keys) -> Keys:
     found = {}
     for name, each in inspect.signature(call).parameters.items():
         value = keys.get(name, each.default)
-        kind, fault = FORMS[each.annotation]
+        kind, fault = FORMS.get(each.annotation, (str, "isn't a text"))
         if not isinstance(value, kind):
             raise BadRequest(f"{name} {fault}")
         try:
@@ -193,7 +188,6 @@ def arguments_of(call: Callable[..., object], keys: Keys) -> Keys:
     return found
 
 
-# What JSON has for each type of parameters, and what is said of anything else.
-FORMS: Mapping[str, Tuple[type, str]] = {
-    "bool": (bool, "is neither true nor false"), "str": (str, "isn't a text"), "Uid": (str, "isn't a text"),
-    "Sequence[str]": (list, "isn't a list")}
+# What JSON has for types of parameters that aren't texts there, and what is said of anything else.
+FORMS: Mapping[str, Tuple[type, str]] = {"bool": (bool, "is neither true nor false"),
+                                         "Sequence[str]": (list, "isn't a list")}

@@ -6,8 +6,9 @@ from io import StringIO
 from itertools import chain
 from typing import Any, Dict, Optional
 
-from ..front.checking import KINDS, MISSING, Difference, changed, crowded, missing, saved
-from ..front.csv_files import COLUMNS, LABEL, SLOTS, RigFile, merged, rig_file
+from ..front.checking import KINDS, MISSING, Difference, changed, crowded, missing
+from ..front.csv_files import COLUMNS, LABEL, MODEL, SLOTS, WRITTEN, RigFile, merged, rig_file, written
+from ..front.fixtures import keys_of
 from ..front.guarding import ADDRESS, problems_of
 from ..front.output import BAD_ARGUMENTS, Failure, Output
 from ..front.sheets import Sheet
@@ -47,7 +48,9 @@ class Plans:
     def save(self) -> Dict[str, str]:
         """The fixtures as a file, with the other columns and devices of the one that is loaded."""
         before = Sheet([]) if self._file is None else self._file.sheet
-        rows = [saved(fixture) for fixture in self._rig.fixtures() if fixture.info is not None]
+        known = [{**keys_of(each), MODEL: each.model or None} for each in self._rig.fixtures() if each.info is not None]
+        # What isn't known stays empty.
+        rows = [{name: "" if keys[name] is None else written(str(keys[name])) for name in WRITTEN} for keys in known]
         return {"text": merged(before, rows, SILENT, keeps=True).text()}
 
     def apply(self, force: bool = False, dry: bool = False) -> Plan:
@@ -82,15 +85,13 @@ class Plans:
             differences = (*missing(file.rows, found, [], SILENT), *changed(file.rows, asked),
                            *crowded(file.rows, with_slots))
             self._board.put("file", {**self._about, "differences": [
-                {"kind": each.kind, "uid": str(each.uid), "label": each.label,
-                 # Of a device that is missing, what the last discovery shows.
-                 "text": self._rig.reasons.get(each.uid, each.text) if each.kind == MISSING else self._text(each)}
+                {"kind": each.kind, "uid": str(each.uid), "label": each.label, "text": self._text(each)}
                 for each in differences]})
 
     def _text(self, found: Difference) -> str:
-        """What differs: what there is, and then what the file says."""
+        """What differs: what there is, and then what the file says; or why it is missing, by the last discovery."""
         if found.kind not in KINDS.values():
-            return found.text
+            return self._rig.reasons.get(found.uid, found.text) if found.kind == MISSING else found.text
         column = found.keys["column"]
         now, planned = (self._rig.value_text(found.uid, column, found.keys[name]) for name in ("after", "before"))
         return f"{'at' if column == ADDRESS else column} {now}, file says {planned}"

@@ -10,9 +10,8 @@ from typing import Any, Callable, Dict, List, Mapping, Optional, Sequence, Tuple
 
 from .. import Device, Uid
 from ..front.applying import make
-from ..front.checking import value_in
 from ..front.csv_files import COLUMNS, LABEL, Change, differs
-from ..front.fixtures import SLOW, Fixture, identifies_of, keys_of, look_at, part_of, values_of
+from ..front.fixtures import SLOW, Fixture, identifies_of, keys_of, look_at, values_of
 from ..front.guarding import ADDRESS, PERSONALITY, moved_by, patched, problems_after
 from ..front.output import BAD_ARGUMENTS, FAILED, REFUSED, Failure
 from ..front.requests import OFF, ON, identify
@@ -26,10 +25,8 @@ MOST_UNDOS = 100
 AGAIN_SECONDS = 5.0
 # What the parts begin with that show a device.
 PREFIX = "fixture/"
-# The page says this in another place, for all that overlap.
-END_NOTE = "its slots end after"
-# A model: its maker, its number, and its software's.
-Model = Tuple[int, object, object]
+# The page says these in other places.
+ELSEWHERE = (SLOW, "part of ", "its slots end after")
 
 
 @dataclass
@@ -42,12 +39,12 @@ class Entry:
     is_read: bool = False
     # When it was asked in vain, since the line failed.
     failed_at: Optional[float] = None
-    identifies: Optional[bool] = None
+    identifies: bool = False
     # Why it isn't there; nothing if the last discovery found it.
     missing: str = ""
 
     @property
-    def model(self) -> Model:
+    def model(self) -> Tuple[object, ...]:
         """What devices have in common that have the same personalities."""
         info = self.fixture.info or {}
         return self.device.uid.manufacturer, info.get("device_model_id"), info.get("software_version_id")
@@ -65,40 +62,41 @@ class Plan:
 
 
 class Rig:
-    """All fixtures. Threads call it."""
+    """All fixtures. Threads call it. Whoever changes a device, which one task does at a time, shows it afterwards."""
 
     def __init__(self, board: Board, hands: Hands) -> None:
         self._board = board
         self.hands = hands
-        self.lock = threading.RLock()
+        # Held while a device is shown, so that the newest is shown last, and while undos change.
+        self.lock = threading.Lock()
+        # Threads change it in single steps.
         self.entries: Dict[Uid, Entry] = {}
-        self._personalities: Dict[Model, List[Dict[str, Any]]] = {}
+        self._personalities: Dict[Tuple[object, ...], List[Dict[str, Any]]] = {}
         self._undos: List[Change] = []
         # What the last discovery shows of devices.
         self.reasons: Mapping[Uid, str] = {}
         # The devices of the file that is loaded.
         self.planned_labels: Mapping[Uid, str] = {}
 
-    def _those(self, is_wanted: Callable[[Entry], bool]) -> List[Entry]:
+    def _those(self, is_wanted: Callable[[Entry], bool] = lambda entry: True) -> List[Entry]:
         """The devices for which this is true."""
-        with self.lock:
-            return [entry for _, entry in sorted(self.entries.items()) if is_wanted(entry)]
+        return [entry for _, entry in sorted(self.entries.items()) if is_wanted(entry)]
 
     def fixtures(self) -> List[Fixture]:
         """Those that the last discovery found, as far as they were asked."""
         return [entry.fixture for entry in self._those(lambda each: not each.missing)]
 
     def with_slots(self) -> List[Fixture]:
-        """All that are known: one that is missing keeps its slots. Each is labelled as pages name it."""
-        return [replace(each.fixture, label=(each.fixture.label or each.fixture.model or "")
-                        + (" (missing)" if each.missing else "")) for each in self._those(lambda each: True)]
+        """All that are known: one that is missing keeps its slots. Each is labelled as pages name it, in quotes."""
+        return [replace(each.fixture, label=f"“{each.fixture.label or each.fixture.model or 'no name'}"
+                        f"{' (missing)' if each.missing else ''}”") for each in self._those()]
 
     def entry(self, uid: Uid) -> Entry:
         """A device that the page knows. Raises Failure."""
-        with self.lock:
-            if uid not in self.entries:
-                raise Failure(BAD_ARGUMENTS, f"{uid} isn't among the fixtures", reason="uid")
-            return self.entries[uid]
+        found = self.entries.get(uid)
+        if found is None:
+            raise Failure(BAD_ARGUMENTS, f"{uid} isn't among the fixtures", reason="uid")
+        return found
 
     def show(self, entry: Entry) -> None:
         """Has pages show a device."""
@@ -106,19 +104,16 @@ class Rig:
             fixture = entry.fixture
             keys = keys_of(fixture)
             first, last = fixture.slots or (None, None)
-            elsewhere = (SLOW, part_of(fixture))
             keys.update(first=first, last=last, root=str(fixture.root), identifies=entry.identifies,
                         missing=entry.missing and self.reasons.get(fixture.uid, entry.missing),
                         is_read=entry.is_read, is_slow=SLOW in fixture.notes,
                         personalities=self._personalities.get(entry.model, []), is_gone=fixture.is_gone,
-                        notes=[note for note in fixture.notes
-                               if note not in elsewhere and not note.startswith(END_NOTE)])
-        self._board.put(f"{PREFIX}{fixture.uid}", keys)
+                        notes=[note for note in fixture.notes if not note.startswith(ELSEWHERE)])
+            self._board.put(f"{PREFIX}{fixture.uid}", keys)
 
     def labels(self) -> Dict[Uid, str]:
         """The devices that are shown, and those of the file that is loaded, with their labels."""
-        with self.lock:
-            return {**self.planned_labels, **{uid: each.fixture.label or "" for uid, each in self.entries.items()}}
+        return {**self.planned_labels, **{each.device.uid: each.fixture.label or "" for each in self._those()}}
 
     def explain(self, reasons: Mapping[Uid, str]) -> None:
         """Has pages show why devices are missing."""
@@ -142,10 +137,9 @@ class Rig:
 
     def read(self, device: Device, is_urgent: bool = False) -> None:
         """Has a device asked for all that the table has."""
-        with self.lock:
-            new = Entry(device, Fixture(device.uid, root=device.binding or device.uid))
-            entry = self.entries.setdefault(device.uid, new)
-            entry.device, entry.missing, entry.failed_at = device, "", None
+        new = Entry(device, Fixture(device.uid, root=device.binding or device.uid))
+        entry = self.entries.setdefault(device.uid, new)
+        entry.device, entry.missing, entry.failed_at = device, "", None
         self.show(entry)
         self.hands.do(str(device.uid), partial(self._read, entry), is_urgent, "read").add_done_callback(
             partial(self._end_read, entry))
@@ -156,14 +150,12 @@ class Rig:
         if isinstance(fault, Failure) and fault.is_of_line:
             entry.failed_at = time.monotonic()
         elif fault is not None:
-            with self.lock:
-                entry.fixture, entry.is_read = replace(entry.fixture, notes=[str(fault)]), True
+            entry.fixture, entry.is_read = replace(entry.fixture, notes=[str(fault)]), True
             self.show(entry)
 
     def read_again(self) -> None:
         """Has devices asked again that were asked in vain a while ago."""
-        before = time.monotonic() - AGAIN_SECONDS
-        self.read_those(lambda entry: entry.failed_at is not None and entry.failed_at < before)
+        self.read_those(lambda each: each.failed_at is not None and each.failed_at + AGAIN_SECONDS < time.monotonic())
 
     def read_those(self, is_wanted: Callable[[Entry], bool], is_urgent: bool = False) -> None:
         """Has devices asked again."""
@@ -174,26 +166,24 @@ class Rig:
         """Takes a device away that isn't there. Raises Failure."""
         if not self.entry(uid).missing:
             raise Failure(BAD_ARGUMENTS, f"{uid} is there, and isn't forgotten", reason="uid")
-        with self.lock:
-            del self.entries[uid]
+        self.entries.pop(uid, None)
         self._board.put(f"{PREFIX}{uid}", None)
 
     def _read(self, entry: Entry, work: Work) -> None:
         """Asks a device."""
         fixture = look_at(work, entry.device)
         identifies = entry.identifies if fixture.is_gone else identifies_of(work, fixture.uid)
-        with self.lock:
-            # What it has said before is better than nothing.
-            if fixture.is_gone and entry.fixture.info is not None:
-                fixture = replace(entry.fixture, notes=fixture.notes, is_gone=True)
-            entry.fixture, entry.is_read, entry.identifies = fixture, True, identifies
-            is_wanted = not fixture.is_gone and (fixture.number("personality_count") or 0) > 1
+        # What it has said before is better than nothing.
+        if fixture.is_gone and entry.fixture.info is not None:
+            fixture = replace(entry.fixture, notes=fixture.notes, is_gone=True)
+        entry.fixture, entry.is_read, entry.identifies = fixture, True, identifies
         self.show(entry)
+        is_wanted = not fixture.is_gone and (fixture.number("personality_count") or 0) > 1
         if is_wanted and entry.model not in self._personalities:
             asking = partial(self._read_personalities, fixture, entry.model)
             self.hands.do(str(entry.model), asking, False, "read").add_done_callback(partial(self._end_read, entry))
 
-    def _read_personalities(self, fixture: Fixture, model: Model, work: Work) -> None:
+    def _read_personalities(self, fixture: Fixture, model: Tuple[object, ...], work: Work) -> None:
         """Asks a device for what all of its model have. If it doesn't say all, the next one that is read is asked."""
         asked, numbers = Fixture(fixture.uid), range(1, (fixture.number("personality_count") or 0) + 1)
         # Another one may have said it since.
@@ -210,18 +200,17 @@ class Rig:
     def identify(self, uid: Uid, on: bool = False, only: bool = False) -> None:
         """Has a device show itself, or not; if only that one, the others stop. Raises Failure."""
         wanted = self.entry(uid)
-        found = self._those(lambda each: each is wanted or (only and bool(each.identifies) and not each.missing))
+        found = self._those(lambda each: each is wanted or (only and each.identifies and not each.missing))
         for end in [self.hands.do(str(each.device.uid), partial(self._identify, each, on and each is wanted))
                     for each in found]:
             end.result()
 
     def _identify(self, entry: Entry, is_on: bool, work: Work) -> None:
         # What it does isn't known until it has said so.
-        entry.identifies = None
+        entry.identifies = False
         try:
             identify(work, entry.device.uid, ON if is_on else OFF)
-            found = identifies_of(work, entry.device.uid)
-            entry.identifies = is_on if found is None else found
+            entry.identifies = identifies_of(work, entry.device.uid, is_on)
         finally:
             self.show(entry)
 
@@ -234,9 +223,9 @@ class Rig:
             encode(COLUMNS[column], True, [value])
         except WordFault as fault:
             raise Failure(BAD_ARGUMENTS, str(fault).replace(COLUMNS[column].name, column, 1), reason="value") from None
-        before = value_in(entry.fixture, column)
-        is_new = before is None or differs(column, before, value)
-        return [Change(uid, column, before or "", value)] if is_new else []
+        before = keys_of(entry.fixture)[column]
+        is_new = before is None or differs(column, str(before), value)
+        return [Change(uid, column, "" if before is None else str(before), value)] if is_new else []
 
     def set(self, uid: Uid, column: str, value: str, force: bool = False) -> Plan:
         """Changes a value. Raises Failure."""
@@ -312,9 +301,10 @@ class Rig:
     def _set_undos(self, undos: List[Change]) -> None:
         """These changes can be taken back, the last one first."""
         self._undos = undos[-MOST_UNDOS:]
-        self._board.put("undo", {"text": undos[-1].text, "back": self._text(undos[-1].reversed),
-                                 "count": len(self._undos), "uid": str(undos[-1].uid),
-                                 "made": self._values_text(undos[-1])} if undos else None)
+        last = undos[-1] if undos else None
+        self._board.put("undo", last and {
+            "text": last.text, "back": self._text(replace(last, before=last.after, after=last.before)),
+            "made": self._values_text(last), "count": len(self._undos), "uid": str(last.uid)})
 
     def undo(self, text: str = "", force: bool = False) -> Plan:
         """Takes the last change back, unless slots would overlap or end after the last one. Raises Failure if that
@@ -325,12 +315,12 @@ class Rig:
             last = self._undos[-1]
             if text not in ("", last.text):
                 raise Failure(FAILED, "another change is the last one by now, so nothing is taken back", reason="undo")
-            now = value_in(self.entry(last.uid).fixture, last.column)
-            if now is not None and differs(last.column, now, last.after):
+            now = keys_of(self.entry(last.uid).fixture)[last.column]
+            if now is not None and differs(last.column, str(now), last.after):
                 self._set_undos(self._undos[:-1])
                 raise Failure(FAILED, f"{last.uid} has {last.column} {now} by now, so it isn't taken back",
                               reason="undo")
-        plan = self.change([last.reversed], force, is_undo=True)
+        plan = self.change([replace(last, before=last.after, after=last.before)], force, is_undo=True)
         if plan.made:
             with self.lock:
                 self._set_undos([each for each in self._undos if each is not last])

@@ -44,21 +44,20 @@ class ServerOfLine:
     def __init__(self, line: str) -> None:
         self.line = line
         self._child: Optional[subprocess.Popen[str]] = None
-        # Since when no server runs. The first one doesn't come back.
-        self._gone_since: Optional[float] = -math.inf
+        # When one is started, if none runs. The first one doesn't come back.
+        self._start_at = -math.inf
 
     def connect(self) -> SharedClient:
         """A client. If no server has run for a while, one is started, and serves other programs too."""
         try:
             client = connect(self.line)
         except NotServed:
-            now = time.monotonic()
-            self._gone_since = now if self._gone_since is None else self._gone_since
-            if now < self._gone_since + PATIENCE_SECONDS:
+            self._start_at = min(self._start_at, time.monotonic() + PATIENCE_SECONDS)
+            if time.monotonic() < self._start_at:
                 raise LineFailed("the server of the line has ended; another is started soon") from None
             self._start()
             client = connect(self.line)
-        self._gone_since = None
+        self._start_at = math.inf
         return client
 
     def _start(self) -> None:

@@ -20,8 +20,7 @@ export const maySend = () => mayUse() && Boolean(parts.get("line")?.there);
 export async function call(name, keys = {}) {
     try {
         const answer = await fetch(`/api/${name}`, { method: "POST", headers, body: JSON.stringify(keys) });
-        const text = await answer.text();
-        return answer.headers.get("Content-Type") === "application/json" ? JSON.parse(text) : { error: text };
+        return answer.ok ? await answer.json() : { error: await answer.text() };
     } catch {
         return { error: "The program of this page doesn't answer, so it isn't known whether that was done." };
     }

@@ -118,9 +118,9 @@ export function view() {
     const old = fixtureOf(moving?.uid), isOld = (slot) => old && old.first <= slot && slot <= old.last;
     const opened = ({ target: { dataset: { uid } } }) => uid && (location.hash = addressOf("fixture", uid));
     return [alarm(), make("p", {}, `${free} slots are free${crowded ? `, ${crowded} shared` : ""}.`),
-        make("ul", { class: "problems" }, problems.slice(0, MOST_PROBLEMS).map((each) => make("li",
-            { class: classes([each.uid, each.other].includes(moving?.uid) && "moot") },
-            `${nameWithSlots(fixtureOf(each.uid) ?? {})}, ${problemOf(each, each.uid)}`)),
+        // What is wrong so far isn't shown beside where a fixture is moved to, which may be free.
+        make("ul", { class: classes("problems", moving && "moot") }, problems.slice(0, MOST_PROBLEMS).map((each) =>
+            make("li", {}, `${nameWithSlots(fixtureOf(each.uid) ?? {})}, ${problemOf(each, each.uid)}`)),
         more > 0 && make("li", {}, `and ${more} more`)),
         make("div", { class: "universe", role: "group", "aria-label": "512 slots", style: `--columns: ${width()}`,
             onkeydown: keyed, onpointerdown: dragged, ondblclick: opened },

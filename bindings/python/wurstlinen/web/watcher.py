@@ -57,21 +57,14 @@ class Discoveries:
         """Begins one. Raises Failure if one runs."""
         if not self._running.acquire(blocking=False):
             raise Failure(BAD_ARGUMENTS, "a discovery is under way", reason="discovery")
-        try:
-            self._board.put(KEY, {"runs": True})
-            end = self._rig.hands.do(KEY, self._run)
-        except BaseException:
-            self._running.release()
-            raise
-        end.add_done_callback(self._end)
+        self._board.put(KEY, {"runs": True})
+        self._rig.hands.do(KEY, self._run).add_done_callback(self._end)
 
     def _end(self, future: Any) -> None:
         """If it has failed, that is what is shown."""
-        try:
-            if future.exception() is not None:
-                self._show(fault=str(future.exception()))
-        finally:
-            self._running.release()
+        if future.exception() is not None:
+            self._show(fault=str(future.exception()))
+        self._running.release()
 
     def take(self, devices: Optional[Sequence[Device]]) -> None:
         """A run of any program has found these; None: no run has been made, so that one is made."""
@@ -133,7 +126,6 @@ class Watcher(threading.Thread):
         self._run_number = 0
         self._progress = Watched(SILENT, None)
         self._last_frame = 0.0
-        self._was_there = True
         # The last run whose devices were told.
         self._told_run: Optional[int] = None
 
@@ -179,22 +171,18 @@ class Watcher(threading.Thread):
         self._told_run, self._run_number = None, 0
         queue.on_frame = self._take
         queue.subscribe([FRAMES])
-        next_look = 0.0
+        next_look, was_there = 0.0, True
         while not self._has_ended.is_set():
             if time.monotonic() >= next_look:
                 self._look(client)
                 next_look = time.monotonic() + LOOK_SECONDS
-            self._tell_line(client)
+            if queue.is_there and not was_there:
+                self._rig.read_those(lambda entry: not entry.is_read)
+            was_there, is_paused = queue.is_there, queue.is_paused()
+            self._board.put("line", {"served": True, "there": was_there, "reason": queue.reason, "name": queue.name,
+                                     "paused": is_paused, "source": str(queue.source), "process": queue.process})
             queue.connection.receive(SLICE_SECONDS)
             self._tell_progress()
-
-    def _tell_line(self, client: SharedClient) -> None:
-        queue = client.queue
-        if queue.is_there and not self._was_there:
-            self._rig.read_those(lambda entry: not entry.is_read)
-        self._was_there = queue.is_there
-        self._board.put("line", {"served": True, "there": queue.is_there, "reason": queue.reason, "name": queue.name,
-                                 "paused": queue.is_paused(), "source": str(queue.source), "process": queue.process})
 
     def _look(self, client: SharedClient) -> None:
         """Asks which devices are known, and who is connected; and devices again that were asked in vain."""
