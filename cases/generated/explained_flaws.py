@@ -145,6 +145,29 @@ exchange 10: 1234:00000008 alone was asked, and bytes came that are no right ans
 they don't begin like a discovery reply; a rule was broken, probably by noise: \
 1234:00000008 isn't listed, and all listed devices were found; if it happens again, check the cable and its terminator
 status 3
+
+the same after one mute, if that UID was read where no listed device was due
+3 unmute; all > liar; mute liar > ack; all > spare; mute spare > noise; 4 mute spare; 5 all
+discovery: 16 exchanges, 1 device; no other device is on the line if all follow the rules; \
+the log doesn't have the run's kind
+1234:00000009 was found, and followed the rules
+exchange 5 (and 1 more): the UIDs from 0000:00000000 to ffff:ffffffff were asked, and bytes came though no listed \
+device was due; they read as 1234:00000008, which isn't listed; a rule was broken: name it by --present, \
+if your rig has it
+exchange 6: bytes came after a mute of 1234:00000008 that don't acknowledge it: \
+they are too short for a response; a rule was broken, by a device or noise: \
+take 1234:00000008 off the line and discover again; if your rig has no such device, split the line
+status 3
+
+the text of a UID that no device may have
+3 unmute; all > liar; mute liar > ack; 5 all; alone spare > nobody
+discovery: 11 exchanges, 1 device; no other device is on the line if all follow the rules; \
+the log doesn't have the run's kind
+1234:00000009 was found, and followed the rules
+exchange 10: 1234:00000008 alone was asked, and bytes came that are no right answer; \
+a rule was broken, by a device or noise: take 1234:00000008 off the line and discover again; \
+if your rig has no such device, split the line
+status 3
 """
 
 

@@ -37,7 +37,7 @@ FEW = f"""\
 if your rig has no such device, split the line
 """
 OFTEN = f"""\
-{GARBLED}probably by 1234:00000008 or its wiring: take it off the line and discover again; \
+{GARBLED}by a device rather than noise: take 1234:00000008 off the line and discover again; \
 if your rig has no such device, split the line
 """
 IGNORES = """\

@@ -114,8 +114,8 @@ not settled: a device from 0000:00000000 up may be missing
 1234:00000009 wasn't found: the run ended before it was clear whether it is there; it broke no rule until then
 1234:00000008 answered alone and then acknowledged no mute: a rule was broken, by it, another device or noise
 exchange 4 (and 4 more): bytes came after a mute of 1234:00000008 that don't acknowledge it: \
-they are too short for a response; a rule was broken, probably by 1234:00000008 or its wiring: \
-take it off the line and discover again; if your rig has no such device, split the line
+they are too short for a response; a rule was broken, by a device rather than noise: take 1234:00000008 \
+off the line and discover again; if your rig has no such device, split the line
 status 3
 """
 

@@ -1,6 +1,6 @@
 -- What is printed for a run: the findings about exactly its exchanges.
 use Rattle.std.specs.Prelude.{◌≡◌, ℕ, Bool, ◌&&◌, ◌||◌, not, List, [], ◌∷◌, ◌++◌, Option, Some, None, flat_map, filter}
-use Rattle.std.specs.Prelude.{false, is_some, if◌then◌else◌, fold, length, nat_le, take, ◌+◌, ◌==◌}
+use Rattle.std.specs.Prelude.{false, is_none, is_some, if◌then◌else◌, fold, length, nat_le, take, ◌+◌, ◌==◌}
 use Rattle.std.specs.List.{position}
 use Rattle.rdm_wire.specs.Uid.{has}
 use Rattle.rdm_wire.specs.Devices.{uids_of}
@@ -178,17 +178,18 @@ abbrev pub any_about : ℕ → List DeviceFinding → Bool
 any_about u [] = false
 any_about u (f ∷ fs) = (f.uid == u) || any_about u fs
 
--- whether a line names a UID that no device should have: none that is listed, comes or leaves, answered alone, or was
--- known
+-- whether a line names a UID that no device should have: none that is listed, comes or leaves, or was known, and none
+-- of those that answered alone and then acknowledged no mute
 abbrev pub is_nobody : Findings → Option Mention → Bool
 is_nobody f None = false
 is_nobody f (Some m) = not (has f.due.items m.uid || any_about m.uid f.gone.items)
 
 -- whether a run found all devices that stayed and followed the rules, and all that are listed, and one exchange alone
--- has bytes that no honest line allows, which noise may have made
+-- has bytes that no honest line allows, which noise may have made, and no other has bytes though no device was due
 abbrev pub is_calm : RunHead → List Exchange → Findings → Bool
 is_calm head xs f =
     decides_stray head f.certificate && (missing_in head xs f == 0) && is_only f.garbled && may_be_noise head.flaw
+    && is_none (stray_of f)
 
 -- whether u was asked alone or muted, and bytes came that are no right answer
 abbrev pub is_bad_answer : ℕ → Exchange → Bool
@@ -213,8 +214,8 @@ cause_by head xs f mention =
     if is_calm head xs f && is_nobody f mention then causes.Noise
     else if_stubborn (is_stubborn f.certificate.failure xs mention)
 
--- Who is probably to blame for the first bytes that no honest line allows. If it is noise, a device would have been
--- found, or would have sent other bytes again. Noise seldom comes so often after one UID
+-- Who is probably to blame for the first bytes that no honest line allows. A device would have been found, or would
+-- have sent such bytes again, and noise seldom comes so often after one UID
 abbrev pub cause_of : RunHead → List Exchange → Findings → Cause
 cause_of head xs f = cause_by head xs f (garbled_mention head.start head.flaw xs f.garbled)
 

@@ -376,15 +376,15 @@ unless_garbled None stray = stray
 unless_garbled (Some garbled) None = None
 unless_garbled (Some garbled) (Some s) = if s.at == garbled.at then None else Some s
 
--- who is probably to blame for bytes that no honest line allows, whichever devices are on it, after u was asked, and
--- what to do. It can't be taken off the line if no device has it
+-- what is probably to blame for bytes that no honest line allows, whichever devices are on it, after u was asked, and
+-- what to do. No device can be taken off the line if none has this UID
 abbrev pub cause_text : Cause → ℕ → List ℕ
 cause_text causes.Noise u =
     codes "; a rule was broken, probably by noise: " ++ uid_text u
     ++ codes " isn't listed, and all listed devices were found; if it happens again, check the cable and its terminator"
 cause_text causes.Device u =
-    codes "; a rule was broken, probably by " ++ uid_text u
-    ++ codes " or its wiring: take it off the line and discover again; if your rig has no such device, split the line"
+    codes "; a rule was broken, by a device rather than noise: take " ++ uid_text u
+    ++ codes " off the line and discover again; if your rig has no such device, split the line"
 cause_text causes.Unclear u =
     codes "; a rule was broken, by a device or noise: take " ++ uid_text u
     ++ codes " off the line and discover again; if your rig has no such device, split the line"

@@ -70,7 +70,7 @@ is_separator None = false
 is_separator (Some byte) = byte == 0xaa
 
 -- Why bytes that begin with n bytes fe are the text of no UID: no aa follows, or these are more than seven; or they are
--- too few for a UID and its checksum; or the checksum is another UID's
+-- too few for a UID and its checksum; or the checksum isn't that of the bytes before it
 abbrev pub flaw_of_text : ℕ → List ℕ → Flaw
 flaw_of_text n bytes =
     if nat_lt 7 n || not (is_separator (slice_get bytes n)) then flaws.NoText
@@ -108,7 +108,7 @@ abbrev pub first_flaw : Option Flaw → ArrayVec ℕ → LineEvent → Option Fl
 first_flaw None frame event = flaw_of frame event
 first_flaw (Some flaw) frame event = Some flaw
 
--- whether bytes don't even begin like a response
+-- whether bytes are too few for a response, or don't begin like one
 abbrev pub is_formless : PacketFault → Bool
 is_formless packets.TooShort = true
 is_formless packets.WrongStart = true
@@ -120,9 +120,9 @@ is_noisy (flaws.Packet fault) = is_formless fault
 is_noisy flaws.NoText = true
 is_noisy _ = false
 
--- the same of bytes that may have none
+-- the same of bytes that may have none, since they are the text of a UID
 abbrev pub may_be_noise : Option Flaw → Bool
-may_be_noise None = true
+may_be_noise None = false
 may_be_noise (Some flaw) = is_noisy flaw
 
 -- why bytes are no response

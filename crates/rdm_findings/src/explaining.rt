@@ -390,7 +390,7 @@ fn cause_by(
 }
 
 // Whether a run found all devices, and one exchange alone has bytes that no honest line allows, which noise may have
-// made.
+// made, and no other has bytes though no device was due.
 fn is_calm(head: &RunHead, exchanges: &[Exchange], found: &Findings) -> bool
     ensures { result ≡ is_calm head.now exchanges.now found.now }
 {
@@ -398,6 +398,7 @@ fn is_calm(head: &RunHead, exchanges: &[Exchange], found: &Findings) -> bool
         && missing_in(head, exchanges, found) == 0
         && is_only(found.garbled)
         && may_be_noise(head.flaw)
+        && stray_of(found).is_none()
 }
 
 // Whether there is one such exchange alone.

@@ -234,7 +234,7 @@ pub(crate) fn may_be_noise(flaw: Option<Flaw>) -> bool
 {
     match flaw {
         Some(flaw) => is_noisy(flaw),
-        None => true,
+        None => false,
     }
 }
 
@@ -248,7 +248,7 @@ fn is_noisy(flaw: Flaw) -> bool
     }
 }
 
-// Whether bytes don't even begin like a response.
+// Whether bytes are too few for a response, or don't begin like one.
 fn is_formless(fault: PacketFault) -> bool
     ensures { result ≡ is_formless fault }
 {

@@ -289,16 +289,19 @@ const NOT_LISTED: &str =
 
 fn write_device(text: &mut Vec<u8>, uid: Uid) -> Result<(), AllocError>
     ensures { OnOk result (text.new.items ≡ text.old.items
-        ++ (codes "; a rule was broken, probably by " ++ uid_text uid ++ codes
-        " or its wiring: take it off the line and discover again; if your rig has no such device, split the line")) }
+        ++ (codes "; a rule was broken, by a device rather than noise: take " ++ uid_text uid
+        ++ codes " off the line and discover again; if your rig has no such device, split the line")) }
 {
-    write(text, "; a rule was broken, probably by ")?;
+    write(
+        text,
+        "; a rule was broken, by a device rather than noise: take ",
+    )?;
     write_uid(text, uid)?;
-    write(text, OR_WIRING)
+    write(text, OFF_OR_SPLIT)
 }
 
-const OR_WIRING: &str =
-    " or its wiring: take it off the line and discover again; if your rig has no such device, split the line";
+const OFF_OR_SPLIT: &str =
+    " off the line and discover again; if your rig has no such device, split the line";
 
 fn write_off(text: &mut Vec<u8>, uid: Uid) -> Result<(), AllocError>
     ensures { OnOk result (text.new.items ≡ text.old.items
@@ -307,10 +310,7 @@ fn write_off(text: &mut Vec<u8>, uid: Uid) -> Result<(), AllocError>
 {
     write(text, "; a rule was broken, by a device or noise: take ")?;
     write_uid(text, uid)?;
-    write(
-        text,
-        " off the line and discover again; if your rig has no such device, split the line",
-    )
+    write(text, OFF_OR_SPLIT)
 }
 
 fn write_spelt(
