@@ -292,7 +292,7 @@ class Fixtures(BrowserTestCase):
             self.assertEqual(bad, ["missing", "overlap", "overlap"])
             # The table says so, too, and leads there.
             seen.button("Fixtures")
-            seen.button("rig.csv: 1 missing, 3 differences, 2 overlaps on the line now")
+            seen.button("rig.csv: 1 of its fixtures missing, 3 differences, 2 overlaps on the line now")
             self.assertEqual(seen.texts("#chooser"), [])
             self.assertIn("not in the file: Apply says which it ends.", seen.texts("main > p")[0])
             seen.button("Apply rig.csv …")
@@ -531,6 +531,9 @@ class OtherViews(BrowserTestCase):
             seen.until("document.querySelector('.count')?.textContent === '4 found, 2 missing'")
             self.assertTrue(seen.texts(".result.bad")[0].endswith(
                 " Missing: “Back truss”, “Lost” (in the file, not in the list). Discovery says more."))
+            # The file has only one of them, and none of those that are there.
+            self.assertEqual(seen.texts(".tools a"), ["rig.csv: 1 of its fixtures missing, 4 not in it, "
+                                                      "2 overlaps on the line now"])
             seen.button("Discovery")
             seen.until(f"{sections}['Missing']?.includes('Back truss (') && {sections}['Missing'].includes('Lost (')")
 

@@ -174,11 +174,13 @@ function rowOf(found) {
 const choose = (wanted) => redraw(Object.assign(chosen, wanted));
 const sortBy = (column) => choose({ column, isDown: chosen.column === column && !chosen.isDown });
 
-// How many fixtures of a file are missing, how many other differences there are, and overlaps that it doesn't have.
+// How many fixtures of a file are missing, how many aren't in it, what else differs, and overlaps that it doesn't have.
 export function differencesOf({ differences: all }) {
     const count = (wanted) => all.filter(({ kind }) => kind === wanted).length;
-    const missing = count("missing"), overlaps = count("overlap");
-    return [missing && `${missing} missing`, plural(all.length - missing - overlaps, "difference"),
+    const missing = count("missing"), unlisted = count("new"), overlaps = count("overlap");
+    const others = all.length - missing - unlisted - overlaps;
+    return [missing && `${missing} of its fixtures missing`, unlisted && `${unlisted} not in it`,
+        (others || !all.length) && plural(others, "difference"),
         overlaps && `${plural(overlaps, "overlap")} on the line now`].filter(Boolean).join(", ");
 }
 
