@@ -138,11 +138,34 @@ class Clear(BrowserTestCase):
             rig.delay = 0.0
             seen.until(f"{count} === '5 fixtures'")
 
+    @at_each_size
+    def test_while_another_discovery_runs(self, size: Tuple[int, int]) -> None:
+        if program() is None:
+            self.skipTest("needs the proved program")
+        liar = {"uid": "4444:00000001", "rig": {"label": "Liar", "lies": ["wrong sum"]}}
+        with opened(size, "discovery", devices=[liar]) as (seen, web, rig):
+            seen.until("document.querySelector('.result.bad')?.textContent.startsWith('Take ')")
+            rig.gone.add(rig.fixtures[2].uid)
+            web.call("discover")
+            seen.until(f"{SECTIONS}['Missing']?.includes('Back truss')")
+            rig.delay = 0.02
+            seen.button("Discover")
+            # What the one before found is said to be old, and that it is incomplete doesn't vanish.
+            seen.until("document.querySelector('main').textContent.includes('so far')")
+            self.assertTrue(seen.texts(".result.bad")[0].startswith("Before this discovery: Take "))
+            self.assertIn("Back truss", seen.page.value(SECTIONS)["Missing before this discovery"])
+            for view in ("Fixtures", "Slots"):
+                seen.button(view)
+                seen.until("document.querySelector('.result.bad')?.textContent.startsWith('Before this discovery: ')")
+            rig.delay = 0.0
+            seen.until("document.querySelector('.result.bad')?.textContent.startsWith('Take ')")
+
     def test_a_run_that_has_ended_isnt_so_far(self) -> None:
         with opened(DESK, "discovery") as (seen, web, rig):
             seen.until("document.querySelector('.result')?.textContent.startsWith('5 fixtures found with')")
-            seen.page.value("""new MutationObserver(() => document.querySelector(".result").textContent
-                && (window.both ??= []).push(document.querySelector("main > p[role=status]").textContent))
+            # The result of the one before says whose it is.
+            seen.page.value("""new MutationObserver(() =>
+                /^(?!Before|$)/.test(document.querySelector(".result").textContent) && (window.both ??= []).push(document.querySelector("main > p[role=status]").textContent))
                 .observe(document.body, { childList: true, subtree: true, characterData: true })""")
             rig.gone.add(rig.fixtures[2].uid)
             web.call("discover")
