@@ -153,8 +153,8 @@ class Fixtures(BrowserTestCase):
             seen.until(f"document.querySelector(\"{label}\")?.value === 'Front left'")
             # A phone has no Escape.
             self.assertEqual(seen.texts(".sending"), [
-                ("Leaving a box sends what you typed; ✕ leaves it as it was." if size == PHONE else
-                 "Enter, or leaving a field, sends what you typed; Escape restores it.")
+                ("Leaving a box sends what you typed; ✕ before that leaves it as it was." if size == PHONE else
+                 "Enter, or leaving a field, sends what you typed; Escape before that restores it.")
                 + " Identify next stops the one before it; it goes through what is shown, in this order."])
             # Whoever passes through, types what is there, or takes back what was typed changes nothing.
             seen.click(label)

@@ -37,13 +37,16 @@ class Clear(BrowserTestCase):
             # It has the focus, and is seen to wait.
             style = f"getComputedStyle(document.querySelector(\"{row(RIGHT)} .address\")).outlineStyle"
             self.assertEqual(seen.page.value(style), "dashed")
-            # Nothing seems to take it back.
+            # Nothing seems to take it back, neither beside it nor in what is said of keys.
+            self.assertEqual(seen.texts(".leave"), [])
+            self.assertRegex(seen.texts(".sending")[0], "(✕|Escape) before that ")
             self.assertEqual(seen.page.value("document.querySelectorAll('#undo:enabled, .made:enabled').length"), 0)
             self.assertTrue(seen.texts(".sending")[0].endswith(
                 " RDM is paused: what you send, Identify and Stop wait until it is resumed. Undo waits for that, too."))
             web.call("pause", on=False)
             events.until(lambda parts: parts[f"fixture/{RIGHT}"]["address"] == 60)
             seen.until(f"!({WAITS}) && document.querySelector('#undo:enabled')")
+            self.assertEqual(seen.texts(".leave"), ["✕"] if size == PHONE else [])
 
     @at_each_size
     def test_new_fixtures_that_are_all_at_one_address(self, size: Tuple[int, int]) -> None:
@@ -165,7 +168,8 @@ class Clear(BrowserTestCase):
             seen.until("document.querySelector('.result')?.textContent.startsWith('5 fixtures found with')")
             # The result of the one before says whose it is.
             seen.page.value("""new MutationObserver(() =>
-                /^(?!Before|$)/.test(document.querySelector(".result").textContent) && (window.both ??= []).push(document.querySelector("main > p[role=status]").textContent))
+                /^(?!Before|$)/.test(document.querySelector(".result").textContent)
+                && (window.both ??= []).push(document.querySelector("main > p[role=status]").textContent))
                 .observe(document.body, { childList: true, subtree: true, characterData: true })""")
             rig.gone.add(rig.fixtures[2].uid)
             web.call("discover")
