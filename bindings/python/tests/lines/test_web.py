@@ -428,7 +428,7 @@ class OtherViews(BrowserTestCase):
             seen.page.value(f"document.querySelector(\"button[data-uid='{RIGHT}']\").focus()")
             for key in ("ArrowDown", "ArrowRight", "ArrowDown", "ArrowLeft", "ArrowLeft"):
                 seen.key(key)
-            self.assertEqual(seen.texts(".hint"), ["Front right: 8-14 → 71-77, free. Enter sends it; "
+            self.assertEqual(seen.texts(".hint"), ["Front right, not sent yet: 8-14 → 71-77, free. Enter sends it; "
                                                    "Escape leaves it where it was."])
             # Above another one it is lifted and low, so that both their names are seen.
             for key in ("ArrowUp", "ArrowUp", "Home"):
@@ -494,7 +494,7 @@ class OtherViews(BrowserTestCase):
         seen.page.value(f"document.querySelector(\"button[data-uid='{RIGHT}']\").focus()")
         for key in ["ArrowDown"] * (12 if size == PHONE else 3) + ["ArrowLeft"] * 5:
             seen.key(key)
-        self.assertIn("Front right: 8-14 → 99-105, overlaps “Back truss (missing)”. Enter asks; ",
+        self.assertIn("Front right, not sent yet: 8-14 → 99-105, overlaps “Back truss (missing)”. Enter asks; ",
                       seen.texts(".hint")[0])
         seen.key("Enter")
         seen.until("document.querySelector('.message')?.innerText.includes('“Back truss (missing)” 100')")

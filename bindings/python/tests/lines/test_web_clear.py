@@ -96,7 +96,8 @@ class Clear(BrowserTestCase):
                 points = [{"x": place[0], "y": place[1]}] if place else []
                 seen.page.call("Input.dispatchTouchEvent", type=kind, touchPoints=points)
                 if place is other:
-                    seen.until("document.querySelector('.hint').textContent === 'House lights: 1 → 25, free. "
+                    seen.until("document.querySelector('.hint').textContent === "
+                               "'House lights, not sent yet: 1 → 25, free. "
                                "Letting go sends it; over its old place, in yellow, leaves it.'")
                     self.assertEqual(seen.page.value("document.querySelectorAll('.universe .old').length"), 1)
             self.assertEqual(seen.texts(".message"), [])
@@ -106,18 +107,22 @@ class Clear(BrowserTestCase):
             seen.until("document.querySelector('.field .address')?.value === '1'")
 
     def test_what_overlaps_no_longer_while_it_is_moved(self) -> None:
-        with opened(DESK, "slots") as (seen, _, _rig):
-            seen.until("document.querySelectorAll('.problems li').length === 2")
+        with opened(DESK, "slots") as (seen, web, _):
+            web.call("change", uid=RIGHT, column="address", value="99", force=True)
+            seen.until("document.querySelectorAll('.problems li').length === 3")
             top = "document.querySelector('.universe').getBoundingClientRect().top"
             before = seen.page.value(top)
             seen.page.value(f"document.querySelector(\"button[data-uid='{LEFT}']\").focus()")
             seen.key("ArrowDown")
             hidden = "[...document.querySelectorAll('.problems li')].map((each) => getComputedStyle(each).visibility)"
-            self.assertEqual(seen.page.value(hidden), ["hidden", "hidden"])
+            # What others overlap stays, and nothing seems to be done.
+            self.assertEqual(seen.page.value(hidden), ["hidden", "hidden", "visible"])
+            self.assertEqual(seen.texts("main > p")[0], "497 slots are free, 1 shared, once this is sent.")
+            self.assertIn("Front left, not sent yet: 1-7 → 33-39, free.", seen.texts(".hint")[0])
             # What is dragged stays under the finger.
             self.assertEqual(seen.page.value(top), before)
             seen.key("Escape")
-            self.assertEqual(seen.page.value(hidden), ["visible", "visible"])
+            self.assertEqual(seen.page.value(hidden), ["visible"] * 3)
 
     @at_each_size
     def test_the_sensors_of_one_that_is_gone(self, size: Tuple[int, int]) -> None:

@@ -238,7 +238,7 @@ class Typing(BrowserTestCase):
             seen.until(f"document.querySelector(\"button[data-uid='{RIGHT}']\").ariaLabel.includes('slots 300 to')")
             seen.key("ArrowRight")
             self.assertEqual(seen.texts(".hint"), [
-                "Back truss: 100 → 102, free. Enter sends it; Escape leaves it where it was."])
+                "Back truss, not sent yet: 100 → 102, free. Enter sends it; Escape leaves it where it was."])
             x, y = seen.page.value(f"(({{left, top}}) => [left + 8, top + 8])(document.querySelector(\"{piece}\")"
                                    ".getBoundingClientRect())")
             seen.page.call("Input.dispatchMouseEvent", type="mousePressed", x=x, y=y, button="left", clickCount=1)
