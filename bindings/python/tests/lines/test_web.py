@@ -139,7 +139,7 @@ class Fixtures(BrowserTestCase):
             seen.type("513")
             seen.key("Tab")
             seen.until("document.querySelector('.message')")
-            self.assertEqual(seen.texts(".message p"), ["address: 513 is not from 1 to 512"])
+            self.assertEqual(seen.texts(".message p"), [f"Front left ({LEFT}): address: 513 is not from 1 to 512"])
             seen.until(f"document.querySelector(\"{row(LEFT)} .address\")?.value === '1'")
             seen.click(f"{row(LEFT)} .label")
             seen.type("Anything")

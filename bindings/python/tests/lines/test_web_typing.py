@@ -178,8 +178,8 @@ class Typing(BrowserTestCase):
                 self.begin(seen, f"{row(LEFT)} .address", text)
                 seen.key("Enter")
                 seen.until(f"document.querySelector('.message p')?.textContent.includes('{text} is not from 1 to 512')")
-            self.assertEqual(seen.texts(".message p"), ["\n".join(f"address: {text} is not from 1 to 512"
-                                                                  for text in (513, 600))])
+            self.assertEqual(seen.texts(".message p"), ["\n".join(
+                f"Front left ({LEFT}): address: {text} is not from 1 to 512" for text in (513, 600))])
             seen.button("Close")
             self.assertEqual(seen.texts(".message"), [])
 
