@@ -14,6 +14,8 @@ from web_pages import (
 )
 from wurstlinen.tool.places import program
 
+TAKE = "Take 4444:00000001 off the line, and discover again. 4444:00000001 isn't in the list, so it can't be " \
+       "flashed: unplug half of the line and discover again to find it. "
 BAD = "<img src=x onerror=top.bad=1>"
 APPLYING = f"""3 changes:
 Front left ({LEFT}): personality 1 Basic, 7 slots → 2 Extended, 14 slots
@@ -521,7 +523,8 @@ class OtherViews(BrowserTestCase):
                 seen.button(view)
                 seen.until("document.querySelector('.result.bad a')")
                 said = seen.texts(".result.bad")[0]
-                self.assertTrue(said.startswith("Take 4444:00000001 off the line, and discover again. "), said)
+                self.assertTrue(said.startswith(TAKE), said)
+                self.assertEqual(said.count("unplug half"), 1)
                 self.assertIn(" Missing: “Lost” (in the file, not in the list). Discovery says more.", said)
             # One that was there before is missing, too: the sentence, the count and the discovery agree.
             rig.gone.add(rig.fixtures[2].uid)
@@ -534,7 +537,10 @@ class OtherViews(BrowserTestCase):
             # The file has only one of them, and none of those that are there.
             self.assertEqual(seen.texts(".tools a"), ["rig.csv: 1 of its fixtures missing, 4 not in it, "
                                                       "2 overlaps on the line now"])
-            seen.button("Discovery")
+            # Nor does its own page, which leads to what is known.
+            seen.click(f"{row(BACK)} .more")
+            seen.until("document.querySelector('article .result.bad')?.textContent.startsWith('Take 4444')")
+            seen.click("article .result a")
             seen.until(f"{sections}['Missing']?.includes('Back truss (') && {sections}['Missing'].includes('Lost (')")
 
     @at_each_size

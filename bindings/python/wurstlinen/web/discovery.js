@@ -6,9 +6,13 @@ import { fixtureOf, maySend, parts, partsOf } from "/server.js";
 
 function resultText(last) {
     const found = `${plural(last.found, "fixture")} found with ${plural(last.frames, "frame")}`;
-    const bad = (last.devices ?? []).filter((each) => each.is_broken).map(({ uid }) => nameOf(fixtureOf(uid)) || uid);
+    const bad = (last.devices ?? []).filter((each) => each.is_broken).map(({ uid }) => uid);
+    const names = bad.map((uid) => nameOf(fixtureOf(uid)) || uid).join(", ");
+    const unlisted = bad.filter((uid) => !fixtureOf(uid)).join(", ");
     const first = (isUnderWay(last) ? "Before this discovery: " : "")
-        + (bad.length ? `Take ${bad.join(", ")} off the line, and discover again. ` : "");
+        + (names && `Take ${names} off the line, and discover again. `)
+        + (unlisted && `${unlisted} isn't in the list, so it can't be flashed: unplug half of the line and discover `
+            + "again to find it. ");
     return first + (last.fault ? `The discovery is incomplete: ${named(last.fault)}. ${found}.`
         : last.is_broken ? `${found}; a rule was broken, so others may be missing.`
             : last.found ? `${found}; nothing else can be on this line if it is honest.`
@@ -48,10 +52,9 @@ function progressText(now, last) {
 
 // What is said of devices, or without a UID of the line.
 function section(title, items) {
-    const heading = make("h3", {}, title + (isUnderWay() ? " before this discovery" : ""));
-    return items.length > 0 && make("section", {}, heading, make("ul", {},
-        items.map(({ uid = "", text }) => make("li", {}, ...(uid ? linked(uid, labelOf(uid)) : []),
-            `${uid && text.startsWith("exchange") ? ":" : ""} ${advice(text)}`))));
+    return items.length > 0 && make("section", {}, make("h3", {}, title + (isUnderWay() ? " before this discovery"
+        : "")), make("ul", {}, items.map(({ uid = "", text }) => make("li", {}, ...(uid ? linked(uid, labelOf(uid))
+        : []), `${uid && text.startsWith("exchange") ? ":" : ""} ${advice(text)}`))));
 }
 
 export function view() {
