@@ -46,6 +46,7 @@ class Clear(BrowserTestCase):
             web.call("pause", on=False)
             events.until(lambda parts: parts[f"fixture/{RIGHT}"]["address"] == 60)
             seen.until(f"!({WAITS}) && document.querySelector('#undo:enabled')")
+            seen.until("!document.querySelector('.busy')")
             self.assertEqual(seen.texts(".leave"), ["✕"] if size == PHONE else [])
 
     @at_each_size
