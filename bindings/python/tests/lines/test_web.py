@@ -14,6 +14,8 @@ from web_pages import (
 )
 from wurstlinen.tool.places import program
 
+TAKE = "Take 4444:00000001 off the line, and discover again. 4444:00000001 isn't in the list, so it can't be " \
+       "flashed: unplug half of the line and discover again to find it. "
 BAD = "<img src=x onerror=top.bad=1>"
 APPLYING = f"""3 changes:
 Front left ({LEFT}): personality 1 Basic, 7 slots → 2 Extended, 14 slots
@@ -139,7 +141,7 @@ class Fixtures(BrowserTestCase):
             seen.type("513")
             seen.key("Tab")
             seen.until("document.querySelector('.message')")
-            self.assertEqual(seen.texts(".message p"), ["address: 513 is not from 1 to 512"])
+            self.assertEqual(seen.texts(".message p"), [f"Front left ({LEFT}): address: 513 is not from 1 to 512"])
             seen.until(f"document.querySelector(\"{row(LEFT)} .address\")?.value === '1'")
             seen.click(f"{row(LEFT)} .label")
             seen.type("Anything")
@@ -153,8 +155,8 @@ class Fixtures(BrowserTestCase):
             seen.until(f"document.querySelector(\"{label}\")?.value === 'Front left'")
             # A phone has no Escape.
             self.assertEqual(seen.texts(".sending"), [
-                ("Leaving a box sends what you typed; ✕ leaves it as it was." if size == PHONE else
-                 "Enter, or leaving a field, sends what you typed; Escape restores it.")
+                ("Leaving a box sends what you typed; ✕ before that leaves it as it was." if size == PHONE else
+                 "Enter, or leaving a field, sends what you typed; Escape before that restores it.")
                 + " Identify next stops the one before it; it goes through what is shown, in this order."])
             # Whoever passes through, types what is there, or takes back what was typed changes nothing.
             seen.click(label)
@@ -292,7 +294,7 @@ class Fixtures(BrowserTestCase):
             self.assertEqual(bad, ["missing", "overlap", "overlap"])
             # The table says so, too, and leads there.
             seen.button("Fixtures")
-            seen.button("rig.csv: 1 missing, 3 differences, 2 overlaps on the line now")
+            seen.button("rig.csv: 1 of its fixtures missing, 3 differences, 2 overlaps on the line now")
             self.assertEqual(seen.texts("#chooser"), [])
             self.assertIn("not in the file: Apply says which it ends.", seen.texts("main > p")[0])
             seen.button("Apply rig.csv …")
@@ -428,7 +430,7 @@ class OtherViews(BrowserTestCase):
             seen.page.value(f"document.querySelector(\"button[data-uid='{RIGHT}']\").focus()")
             for key in ("ArrowDown", "ArrowRight", "ArrowDown", "ArrowLeft", "ArrowLeft"):
                 seen.key(key)
-            self.assertEqual(seen.texts(".hint"), ["Front right: 8-14 → 71-77, free. Enter sends it; "
+            self.assertEqual(seen.texts(".hint"), ["Front right, not sent yet: 8-14 → 71-77, free. Enter sends it; "
                                                    "Escape leaves it where it was."])
             # Above another one it is lifted and low, so that both their names are seen.
             for key in ("ArrowUp", "ArrowUp", "Home"):
@@ -494,7 +496,7 @@ class OtherViews(BrowserTestCase):
         seen.page.value(f"document.querySelector(\"button[data-uid='{RIGHT}']\").focus()")
         for key in ["ArrowDown"] * (12 if size == PHONE else 3) + ["ArrowLeft"] * 5:
             seen.key(key)
-        self.assertIn("Front right: 8-14 → 99-105, overlaps “Back truss (missing)”. Enter asks; ",
+        self.assertIn("Front right, not sent yet: 8-14 → 99-105, overlaps “Back truss (missing)”. Enter asks; ",
                       seen.texts(".hint")[0])
         seen.key("Enter")
         seen.until("document.querySelector('.message')?.innerText.includes('“Back truss (missing)” 100')")
@@ -521,7 +523,8 @@ class OtherViews(BrowserTestCase):
                 seen.button(view)
                 seen.until("document.querySelector('.result.bad a')")
                 said = seen.texts(".result.bad")[0]
-                self.assertTrue(said.startswith("Take 4444:00000001 off the line, and discover again. "), said)
+                self.assertTrue(said.startswith(TAKE), said)
+                self.assertEqual(said.count("unplug half"), 1)
                 self.assertIn(" Missing: “Lost” (in the file, not in the list). Discovery says more.", said)
             # One that was there before is missing, too: the sentence, the count and the discovery agree.
             rig.gone.add(rig.fixtures[2].uid)
@@ -531,7 +534,13 @@ class OtherViews(BrowserTestCase):
             seen.until("document.querySelector('.count')?.textContent === '4 found, 2 missing'")
             self.assertTrue(seen.texts(".result.bad")[0].endswith(
                 " Missing: “Back truss”, “Lost” (in the file, not in the list). Discovery says more."))
-            seen.button("Discovery")
+            # The file has only one of them, and none of those that are there.
+            self.assertEqual(seen.texts(".tools a"), ["rig.csv: 1 of its fixtures missing, 4 not in it, "
+                                                      "2 overlaps on the line now"])
+            # Nor does its own page, which leads to what is known.
+            seen.click(f"{row(BACK)} .more")
+            seen.until("document.querySelector('article .result.bad')?.textContent.startsWith('Take 4444')")
+            seen.click("article .result a")
             seen.until(f"{sections}['Missing']?.includes('Back truss (') && {sections}['Missing'].includes('Lost (')")
 
     @at_each_size

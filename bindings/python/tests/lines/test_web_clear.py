@@ -37,13 +37,17 @@ class Clear(BrowserTestCase):
             # It has the focus, and is seen to wait.
             style = f"getComputedStyle(document.querySelector(\"{row(RIGHT)} .address\")).outlineStyle"
             self.assertEqual(seen.page.value(style), "dashed")
-            # Nothing seems to take it back.
+            # Nothing seems to take it back, neither beside it nor in what is said of keys.
+            self.assertEqual(seen.texts(".leave"), [])
+            self.assertRegex(seen.texts(".sending")[0], "(✕|Escape) before that ")
             self.assertEqual(seen.page.value("document.querySelectorAll('#undo:enabled, .made:enabled').length"), 0)
             self.assertTrue(seen.texts(".sending")[0].endswith(
                 " RDM is paused: what you send, Identify and Stop wait until it is resumed. Undo waits for that, too."))
             web.call("pause", on=False)
             events.until(lambda parts: parts[f"fixture/{RIGHT}"]["address"] == 60)
             seen.until(f"!({WAITS}) && document.querySelector('#undo:enabled')")
+            seen.until("!document.querySelector('.busy')")
+            self.assertEqual(seen.texts(".leave"), ["✕"] if size == PHONE else [])
 
     @at_each_size
     def test_new_fixtures_that_are_all_at_one_address(self, size: Tuple[int, int]) -> None:
@@ -93,7 +97,8 @@ class Clear(BrowserTestCase):
                 points = [{"x": place[0], "y": place[1]}] if place else []
                 seen.page.call("Input.dispatchTouchEvent", type=kind, touchPoints=points)
                 if place is other:
-                    seen.until("document.querySelector('.hint').textContent === 'House lights: 1 → 25, free. "
+                    seen.until("document.querySelector('.hint').textContent === "
+                               "'House lights, not sent yet: 1 → 25, free. "
                                "Letting go sends it; over its old place, in yellow, leaves it.'")
                     self.assertEqual(seen.page.value("document.querySelectorAll('.universe .old').length"), 1)
             self.assertEqual(seen.texts(".message"), [])
@@ -103,18 +108,22 @@ class Clear(BrowserTestCase):
             seen.until("document.querySelector('.field .address')?.value === '1'")
 
     def test_what_overlaps_no_longer_while_it_is_moved(self) -> None:
-        with opened(DESK, "slots") as (seen, _, _rig):
-            seen.until("document.querySelectorAll('.problems li').length === 2")
+        with opened(DESK, "slots") as (seen, web, _):
+            web.call("change", uid=RIGHT, column="address", value="99", force=True)
+            seen.until("document.querySelectorAll('.problems li').length === 3")
             top = "document.querySelector('.universe').getBoundingClientRect().top"
             before = seen.page.value(top)
             seen.page.value(f"document.querySelector(\"button[data-uid='{LEFT}']\").focus()")
             seen.key("ArrowDown")
             hidden = "[...document.querySelectorAll('.problems li')].map((each) => getComputedStyle(each).visibility)"
-            self.assertEqual(seen.page.value(hidden), ["hidden", "hidden"])
+            # What others overlap stays, and nothing seems to be done.
+            self.assertEqual(seen.page.value(hidden), ["hidden", "hidden", "visible"])
+            self.assertEqual(seen.texts("main > p")[0], "497 slots are free, 1 shared, once this is sent.")
+            self.assertIn("Front left, not sent yet: 1-7 → 33-39, free.", seen.texts(".hint")[0])
             # What is dragged stays under the finger.
             self.assertEqual(seen.page.value(top), before)
             seen.key("Escape")
-            self.assertEqual(seen.page.value(hidden), ["visible", "visible"])
+            self.assertEqual(seen.page.value(hidden), ["visible"] * 3)
 
     @at_each_size
     def test_the_sensors_of_one_that_is_gone(self, size: Tuple[int, int]) -> None:
@@ -138,10 +147,34 @@ class Clear(BrowserTestCase):
             rig.delay = 0.0
             seen.until(f"{count} === '5 fixtures'")
 
+    @at_each_size
+    def test_while_another_discovery_runs(self, size: Tuple[int, int]) -> None:
+        if program() is None:
+            self.skipTest("needs the proved program")
+        liar = {"uid": "4444:00000001", "rig": {"label": "Liar", "lies": ["wrong sum"]}}
+        with opened(size, "discovery", devices=[liar]) as (seen, web, rig):
+            seen.until("document.querySelector('.result.bad')?.textContent.startsWith('Take ')")
+            rig.gone.add(rig.fixtures[2].uid)
+            web.call("discover")
+            seen.until(f"{SECTIONS}['Missing']?.includes('Back truss')")
+            rig.delay = 0.02
+            seen.button("Discover")
+            # What the one before found is said to be old, and that it is incomplete doesn't vanish.
+            seen.until("document.querySelector('main').textContent.includes('so far')")
+            self.assertTrue(seen.texts(".result.bad")[0].startswith("Before this discovery: Take "))
+            self.assertIn("Back truss", seen.page.value(SECTIONS)["Missing before this discovery"])
+            for view in ("Fixtures", "Slots"):
+                seen.button(view)
+                seen.until("document.querySelector('.result.bad')?.textContent.startsWith('Before this discovery: ')")
+            rig.delay = 0.0
+            seen.until("document.querySelector('.result.bad')?.textContent.startsWith('Take ')")
+
     def test_a_run_that_has_ended_isnt_so_far(self) -> None:
         with opened(DESK, "discovery") as (seen, web, rig):
             seen.until("document.querySelector('.result')?.textContent.startsWith('5 fixtures found with')")
-            seen.page.value("""new MutationObserver(() => document.querySelector(".result").textContent
+            # The result of the one before says whose it is.
+            seen.page.value("""new MutationObserver(() =>
+                /^(?!Before|$)/.test(document.querySelector(".result").textContent)
                 && (window.both ??= []).push(document.querySelector("main > p[role=status]").textContent))
                 .observe(document.body, { childList: true, subtree: true, characterData: true })""")
             rig.gone.add(rig.fixtures[2].uid)

@@ -178,8 +178,8 @@ class Typing(BrowserTestCase):
                 self.begin(seen, f"{row(LEFT)} .address", text)
                 seen.key("Enter")
                 seen.until(f"document.querySelector('.message p')?.textContent.includes('{text} is not from 1 to 512')")
-            self.assertEqual(seen.texts(".message p"), ["\n".join(f"address: {text} is not from 1 to 512"
-                                                                  for text in (513, 600))])
+            self.assertEqual(seen.texts(".message p"), ["\n".join(
+                f"Front left ({LEFT}): address: {text} is not from 1 to 512" for text in (513, 600))])
             seen.button("Close")
             self.assertEqual(seen.texts(".message"), [])
 
@@ -238,7 +238,7 @@ class Typing(BrowserTestCase):
             seen.until(f"document.querySelector(\"button[data-uid='{RIGHT}']\").ariaLabel.includes('slots 300 to')")
             seen.key("ArrowRight")
             self.assertEqual(seen.texts(".hint"), [
-                "Back truss: 100 → 102, free. Enter sends it; Escape leaves it where it was."])
+                "Back truss, not sent yet: 100 → 102, free. Enter sends it; Escape leaves it where it was."])
             x, y = seen.page.value(f"(({{left, top}}) => [left + 8, top + 8])(document.querySelector(\"{piece}\")"
                                    ".getBoundingClientRect())")
             seen.page.call("Input.dispatchMouseEvent", type="mousePressed", x=x, y=y, button="left", clickCount=1)

@@ -34,7 +34,7 @@ export function say(text, { isBad = false, actions = [] } = {}) {
     setTimeout(() => (said.isDeaf = false, draw()), DEAF_TIME);
     // What it is about stays in sight.
     const about = from.closest("tr, label")?.getBoundingClientRect().bottom ?? 0;
-    scrollBy(0, Math.max(0, about - document.querySelector(".message").getBoundingClientRect().top));
+    scrollBy(0, Math.max(0, Math.ceil(about - document.querySelector(".message").getBoundingClientRect().top)));
 }
 
 function close() {

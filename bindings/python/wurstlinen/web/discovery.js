@@ -6,12 +6,17 @@ import { fixtureOf, maySend, parts, partsOf } from "/server.js";
 
 function resultText(last) {
     const found = `${plural(last.found, "fixture")} found with ${plural(last.frames, "frame")}`;
-    const bad = (last.devices ?? []).filter((each) => each.is_broken).map(({ uid }) => nameOf(fixtureOf(uid)) || uid);
-    const first = bad.length ? `Take ${bad.join(", ")} off the line, and discover again. ` : "";
-    return last.fault ? `${first}The discovery is incomplete: ${named(last.fault)}. ${found}.`
-        : last.is_broken ? `${first}${found}; a rule was broken, so others may be missing.`
+    const bad = (last.devices ?? []).filter((each) => each.is_broken).map(({ uid }) => uid);
+    const names = bad.map((uid) => nameOf(fixtureOf(uid)) || uid).join(", ");
+    const unlisted = bad.filter((uid) => !fixtureOf(uid)).join(", ");
+    const first = (isUnderWay(last) ? "Before this discovery: " : "")
+        + (names && `Take ${names} off the line, and discover again. `)
+        + (unlisted && `${unlisted} isn't in the list, so it can't be flashed: unplug half of the line and discover `
+            + "again to find it. ");
+    return first + (last.fault ? `The discovery is incomplete: ${named(last.fault)}. ${found}.`
+        : last.is_broken ? `${found}; a rule was broken, so others may be missing.`
             : last.found ? `${found}; nothing else can be on this line if it is honest.`
-                : `${found}: check the adapter and the first cable.`;
+                : `${found}: check the adapter and the first cable.`);
 }
 
 const isBad = (last) => Boolean(last?.fault || last?.is_broken);
@@ -47,9 +52,9 @@ function progressText(now, last) {
 
 // What is said of devices, or without a UID of the line.
 function section(title, items) {
-    return items.length > 0 && make("section", {}, make("h3", {}, title), make("ul", {},
-        items.map(({ uid = "", text }) => make("li", {}, ...(uid ? linked(uid, labelOf(uid)) : []),
-            `${uid && text.startsWith("exchange") ? ":" : ""} ${advice(text)}`))));
+    return items.length > 0 && make("section", {}, make("h3", {}, title + (isUnderWay() ? " before this discovery"
+        : "")), make("ul", {}, items.map(({ uid = "", text }) => make("li", {}, ...(uid ? linked(uid, labelOf(uid))
+        : []), `${uid && text.startsWith("exchange") ? ":" : ""} ${advice(text)}`))));
 }
 
 export function view() {
@@ -59,7 +64,7 @@ export function view() {
     return [make("div", { class: "tools" }, begin,
         make("p", { class: "sending" }, "Once it has begun, nothing stops it: it ends by itself.")),
         make("p", { role: "status" }, progressText(parts.get("progress"), last)),
-        make("p", { class: classes("result", isBad(last) && "bad") }, last && !last.runs && resultText(last)),
+        make("p", { class: classes("result", isBad(last) && "bad") }, last && "found" in last && resultText(last)),
         section("Fixtures that did something wrong", said().filter((each) => each.is_broken)),
         section("Missing", absent()), section("Also seen", (last?.others ?? []).map((text) => ({ text }))),
         address && make("div", { key: address }, make("p", {}, make("a", { href: address, target: "_blank",

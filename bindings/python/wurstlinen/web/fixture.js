@@ -1,5 +1,6 @@
 // One fixture: on a phone it fills the screen. What `show` shows, and what can be set.
 import { act, addressOf, busily, busy, redraw, say } from "/app.js";
+import { alarm } from "/discovery.js";
 import { button, classes, make } from "/dom.js";
 import { SENDING, changeOf, editor, identifier, nameOf, notesOf, ordered, remarksOf, send, slotsOf, valueOf, walk }
     from "/fixtures.js";
@@ -62,7 +63,7 @@ export function view(uid) {
     const back = make("a", { class: "back", href: addressOf("fixtures") }, "‹ All fixtures");
     if (!found) {
         return [make("article", {}, back, make("h2", { class: "name" }, uid), make("p", { class: "notes" },
-            "It isn't among the fixtures."))];
+            "It isn't among the fixtures."), alarm())];
     }
     maySend() && asked !== uid && !isOver && readAll(uid);
     const isReading = busy.has(`${uid}/show`) || isOver === false, notes = notesOf(found);
@@ -76,6 +77,7 @@ export function view(uid) {
     return [make("article", {}, back, make("h2", { class: "name" }, nameOf(found)),
         make("p", { class: "whole" }, about.join(" · ")),
         make("p", { class: classes("notes", notes.length && "bad") }, [...notes, ...remarksOf(found)].join("; ")),
+        found.missing && alarm(),
         identifier(found, "big"),
         make("div", { class: "tools steps" }, steps), field("Label", "label"),
         make("div", { class: "place" }, field("Address", "address"), nudge(found, "−", -1, "lower"),

@@ -6,8 +6,8 @@ import { fixtureOf, maySend, mayUse, parts, partsOf } from "/server.js";
 
 const COLUMNS = { label: "Label", address: "Address", slots: "At slots", personality: "Personality", model: "Model",
     uid: "UID" };
-export const SENDING = isTouched ? "Leaving a box sends what you typed; ✕ leaves it as it was."
-    : "Enter, or leaving a field, sends what you typed; Escape restores it.";
+export const SENDING = isTouched ? "Leaving a box sends what you typed; ✕ before that leaves it as it was."
+    : "Enter, or leaving a field, sends what you typed; Escape before that restores it.";
 const WALKING = "Identify next stops the one before it; it goes through what is shown, in this order.";
 const PAUSED = "RDM is paused: what you send, Identify and Stop wait until it is resumed. Undo waits for that, too.";
 const chosen = { filter: "", column: "address", isDown: false };
@@ -112,7 +112,7 @@ export function editor(found, column) {
     };
     const restore = ({ target }) => redraw(Object.assign(target, { value: valueOf(uid, column), isTyped: false }));
     const onkeydown = (event) => ({ Escape: restore, Enter: leaveIt })[event.key]?.(event);
-    // A phone has no Escape. The box isn't left before what was typed is gone.
+    // A phone has no Escape. The box isn't left before what was typed is gone. What is on its way can't be taken back.
     const leave = button("✕", ({ target: { previousSibling: target } }) => (restore({ target }), target.blur()),
         { class: "leave", onpointerdown: (event) => event.preventDefault(), "aria-label": "Leave it as it was" });
     return [make(isChoice ? "select" : "input", { ...busyAs(name, column), name, shown: valueOf(uid, column),
@@ -122,7 +122,7 @@ export function editor(found, column) {
             ? [...new Set([nameOf(found), uid])].join(", ") : null,
         disabled: !maySend() || Boolean(found.missing) || !found.is_read
             || (isChoice && found.personalities.length < 2) }, isChoice ? personalitiesOf(found) : []),
-    isTouched && !isChoice && leave];
+    isTouched && !isChoice && !busy.has(name) && leave];
 }
 
 // What was changed last, if it was here, and what takes it back.
@@ -174,11 +174,13 @@ function rowOf(found) {
 const choose = (wanted) => redraw(Object.assign(chosen, wanted));
 const sortBy = (column) => choose({ column, isDown: chosen.column === column && !chosen.isDown });
 
-// How many fixtures of a file are missing, how many other differences there are, and overlaps that it doesn't have.
+// How many fixtures of a file are missing, how many aren't in it, what else differs, and overlaps that it doesn't have.
 export function differencesOf({ differences: all }) {
     const count = (wanted) => all.filter(({ kind }) => kind === wanted).length;
-    const missing = count("missing"), overlaps = count("overlap");
-    return [missing && `${missing} missing`, plural(all.length - missing - overlaps, "difference"),
+    const missing = count("missing"), unlisted = count("new"), overlaps = count("overlap");
+    const others = all.length - missing - unlisted - overlaps;
+    return [missing && `${missing} of its fixtures missing`, unlisted && `${unlisted} not in it`,
+        (others || !all.length) && plural(others, "difference"),
         overlaps && `${plural(overlaps, "overlap")} on the line now`].filter(Boolean).join(", ");
 }
 

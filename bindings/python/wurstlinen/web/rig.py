@@ -222,7 +222,8 @@ class Rig:
         try:
             encode(COLUMNS[column], True, [value])
         except WordFault as fault:
-            raise Failure(BAD_ARGUMENTS, str(fault).replace(COLUMNS[column].name, column, 1), reason="value") from None
+            text = str(fault).replace(COLUMNS[column].name, column, 1)
+            raise Failure(BAD_ARGUMENTS, f"{uid}: {text}", reason="value") from None
         before = keys_of(entry.fixture)[column]
         is_new = before is None or differs(column, str(before), value)
         return [Change(uid, column, "" if before is None else str(before), value)] if is_new else []

@@ -58,7 +58,7 @@ function hint(fixtures) {
         make("a", { href: addressOf("fixture", uid), "data-uid": uid }, "type its address"), "."] : [HELP];
     const by = drag ? "Letting go" : "Enter", end = others ? `overlaps ${others}. ${by} asks` : `free. ${by} sends it`;
     const leave = drag && isTouched ? "over its old place, in yellow, leaves it" : "Escape leaves it where it was";
-    return before ? [`${nameOf(before)}: ${slotsOf(before)} → ${slotsOf(moving)}, ${end}; ${leave}.`]
+    return before ? [`${nameOf(before)}, not sent yet: ${slotsOf(before)} → ${slotsOf(moving)}, ${end}; ${leave}.`]
         : maySend() ? help : [];
 }
 
@@ -114,14 +114,18 @@ function piecesOf(found, owners) {
 export function view() {
     const fixtures = placed(), owners = ownersOf(fixtures);
     const crowded = owners.filter((each) => each > 1).length, free = owners.filter((each) => !each).length;
-    const problems = parts.get("problems") ?? [], more = problems.length - MOST_PROBLEMS;
+    const problems = parts.get("problems") ?? [];
+    const isMoot = (each) => moving && [each.uid, each.other].includes(moving.uid);
+    const more = problems.slice(MOST_PROBLEMS).filter((each) => !isMoot(each)).length;
     const old = fixtureOf(moving?.uid), isOld = (slot) => old && old.first <= slot && slot <= old.last;
     const opened = ({ target: { dataset: { uid } } }) => uid && (location.hash = addressOf("fixture", uid));
-    return [alarm(), make("p", {}, `${free} slots are free${crowded ? `, ${crowded} shared` : ""}.`),
-        // What is wrong so far isn't shown beside where a fixture is moved to, which may be free.
-        make("ul", { class: classes("problems", moving && "moot") }, problems.slice(0, MOST_PROBLEMS).map((each) =>
-            make("li", {}, `${nameWithSlots(fixtureOf(each.uid) ?? {})}, ${problemOf(each, each.uid)}`)),
-        more > 0 && make("li", {}, `and ${more} more`)),
+    return [alarm(), make("p", {}, `${free} slots are free${crowded ? `, ${crowded} shared` : ""}${
+        moving ? ", once this is sent" : ""}.`),
+        // What is wrong with a fixture so far isn't shown beside where it is moved to, which may be free.
+        make("ul", { class: "problems" }, problems.slice(0, MOST_PROBLEMS).map((each) => make("li",
+            { class: classes(isMoot(each) && "moot") },
+            `${nameWithSlots(fixtureOf(each.uid) ?? {})}, ${problemOf(each, each.uid)}`)),
+        problems.length > MOST_PROBLEMS && make("li", {}, `and ${more} more`)),
         make("div", { class: "universe", role: "group", "aria-label": "512 slots", style: `--columns: ${width()}`,
             onkeydown: keyed, onpointerdown: dragged, ondblclick: opened },
         owners.map((count, at) => make("i", { class: classes(count > 1 && "crowded", isOld(at + 1) && "old"),

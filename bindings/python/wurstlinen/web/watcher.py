@@ -50,6 +50,8 @@ class Discoveries:
         self._rig = rig
         # Held while one is under way or waits.
         self._running = threading.Lock()
+        # How the last one ended, which pages show until the next one has.
+        self._last: Dict[str, Any] = {}
         # The last one's log and findings, by the name of its picture.
         self._pictures: Dict[str, Tuple[List[str], Findings]] = {}
 
@@ -57,7 +59,7 @@ class Discoveries:
         """Begins one. Raises Failure if one runs."""
         if not self._running.acquire(blocking=False):
             raise Failure(BAD_ARGUMENTS, "a discovery is under way", reason="discovery")
-        self._board.put(KEY, {"runs": True})
+        self._board.put(KEY, {**self._last, "runs": True})
         self._rig.hands.do(KEY, self._run).add_done_callback(self._end)
 
     def _end(self, future: Any) -> None:
@@ -103,7 +105,8 @@ class Discoveries:
 
     def _show(self, **keys: Any) -> None:
         """Shows how it ended."""
-        self._board.put(KEY, {"runs": False, "found": 0, "frames": 0, **keys})
+        self._last = {"runs": False, "found": 0, "frames": 0, **keys}
+        self._board.put(KEY, self._last)
 
 
 class Watcher(threading.Thread):
