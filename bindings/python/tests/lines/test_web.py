@@ -14,8 +14,8 @@ from web_pages import (
 )
 from wurstlinen.tool.places import program
 
-TAKE = "Take 4444:00000001 off the line, and discover again. 4444:00000001 isn't in the list, so it can't be " \
-       "flashed: unplug half of the line and discover again to find it. "
+TAKE = "Take 4444:00000001 off the line, and discover again. 4444:00000001 isn't in the list: unplug half of the " \
+       "line and discover again to find it. "
 BAD = "<img src=x onerror=top.bad=1>"
 APPLYING = f"""3 changes:
 Front left ({LEFT}): personality 1 Basic, 7 slots → 2 Extended, 14 slots
@@ -535,8 +535,8 @@ class OtherViews(BrowserTestCase):
             self.assertTrue(seen.texts(".result.bad")[0].endswith(
                 " Missing: “Back truss”, “Lost” (in the file, not in the list). Discovery says more."))
             # The file has only one of them, and none of those that are there.
-            self.assertEqual(seen.texts(".tools a"), ["rig.csv: 1 of its fixtures missing, 4 not in it, "
-                                                      "2 overlaps on the line now"])
+            seen.until("[...document.querySelectorAll('.tools a')].map((each) => each.textContent).join() === "
+                       "'rig.csv: 1 of its fixtures missing, 4 not in it, 2 overlaps on the line now'")
             # Nor does its own page, which leads to what is known.
             seen.click(f"{row(BACK)} .more")
             seen.until("document.querySelector('article .result.bad')?.textContent.startsWith('Take 4444')")

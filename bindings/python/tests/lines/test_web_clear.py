@@ -107,6 +107,16 @@ class Clear(BrowserTestCase):
             seen.tap(".hint a")
             seen.until("document.querySelector('.field .address')?.value === '1'")
 
+    @at_each_size
+    def test_slots_that_arent_known(self, size: Tuple[int, int]) -> None:
+        # It refuses all that it is asked, also how many slots it has.
+        sulky = {"uid": "4444:00000001", "rig": {"label": "Sulky", "nack": "0004"}}
+        with opened(size, devices=[sulky]) as (seen, _, _rig):
+            seen.until(f"document.querySelector(\"{row('4444:00000001')}\")?.textContent.includes('unknown')")
+            seen.open("slots")
+            seen.until("document.querySelector('main > p')?.textContent === "
+                       "'497 slots are free, 1 shared, those of 1 fixture unknown.'")
+
     def test_what_overlaps_no_longer_while_it_is_moved(self) -> None:
         with opened(DESK, "slots") as (seen, web, _):
             web.call("change", uid=RIGHT, column="address", value="99", force=True)

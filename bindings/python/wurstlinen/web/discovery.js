@@ -11,8 +11,7 @@ function resultText(last) {
     const unlisted = bad.filter((uid) => !fixtureOf(uid)).join(", ");
     const first = (isUnderWay(last) ? "Before this discovery: " : "")
         + (names && `Take ${names} off the line, and discover again. `)
-        + (unlisted && `${unlisted} isn't in the list, so it can't be flashed: unplug half of the line and discover `
-            + "again to find it. ");
+        + (unlisted && `${unlisted} isn't in the list: unplug half of the line and discover again to find it. `);
     return first + (last.fault ? `The discovery is incomplete: ${named(last.fault)}. ${found}.`
         : last.is_broken ? `${found}; a rule was broken, so others may be missing.`
             : last.found ? `${found}; nothing else can be on this line if it is honest.`

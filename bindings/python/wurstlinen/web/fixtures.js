@@ -57,8 +57,8 @@ export function notesOf({ uid, missing, notes }) {
 
 export const remarksOf = ({ uid, root, is_slow: isSlow }) => [root === uid ? "" : `part of ${nameOf(fixtureOf(root))
     || root}`, isSlow ? "answers slowly" : ""].filter(Boolean);
-export const slotsOf = ({ first, last, is_read: isRead }) => (first ? [...new Set([first, last])].join("-")
-    : isRead ? "none" : "…");
+export const slotsOf = ({ first, last, slots, is_read: isRead }) => (first ? [...new Set([first, last])].join("-")
+    : !isRead ? "…" : slots === null ? "unknown" : "none");
 
 // In the order in which they are shown.
 export function ordered() {

@@ -1,6 +1,6 @@
 // The universe as 512 slots: who has which. Fixtures are moved by drag, or by keys.
 import { act, addressOf, draw, redraw } from "/app.js";
-import { classes, isTouched, make } from "/dom.js";
+import { classes, isTouched, make, plural } from "/dom.js";
 import { alarm } from "/discovery.js";
 import { nameOf, placedNameOf, problemOf, slotsOf } from "/fixtures.js";
 import { fixtureOf, maySend, parts, partsOf } from "/server.js";
@@ -113,6 +113,7 @@ function piecesOf(found, owners) {
 
 export function view() {
     const fixtures = placed(), owners = ownersOf(fixtures);
+    const unknown = partsOf("fixture/").filter((found) => slotsOf(found) === "unknown").length;
     const crowded = owners.filter((each) => each > 1).length, free = owners.filter((each) => !each).length;
     const problems = parts.get("problems") ?? [];
     const isMoot = (each) => moving && [each.uid, each.other].includes(moving.uid);
@@ -120,7 +121,7 @@ export function view() {
     const old = fixtureOf(moving?.uid), isOld = (slot) => old && old.first <= slot && slot <= old.last;
     const opened = ({ target: { dataset: { uid } } }) => uid && (location.hash = addressOf("fixture", uid));
     return [alarm(), make("p", {}, `${free} slots are free${crowded ? `, ${crowded} shared` : ""}${
-        moving ? ", once this is sent" : ""}.`),
+        unknown ? `, those of ${plural(unknown, "fixture")} unknown` : ""}${moving ? ", once this is sent" : ""}.`),
         // What is wrong with a fixture so far isn't shown beside where it is moved to, which may be free.
         make("ul", { class: "problems" }, problems.slice(0, MOST_PROBLEMS).map((each) => make("li",
             { class: classes(isMoot(each) && "moot") },
