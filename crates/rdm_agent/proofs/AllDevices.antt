@@ -1,9 +1,9 @@
 -- What a line with a set of devices, noisy or not, shows of a run.
 use Rattle.rdm_agent.proofs.Common.{◌≡◌, ℕ, Bool, true, false, List, [], ◌∷◌, Option, Some, None, refl, sym, ap, ◌∙◌}
 use Rattle.rdm_agent.proofs.Common.{subst, inl, inr, true≢false, MatchBool, cons_option, has, Asked, Heard, Seen}
-use Rattle.rdm_agent.proofs.Common.{LineState, NoisyStep, Chain, Counts, KeepsMuted, MuteMovesInNoise, Unmute, Branch}
+use Rattle.rdm_agent.proofs.Common.{LineState, NoisyStep, Chain, LineCounts, KeepsMuted, MuteMovesInNoise, Unmute}
 use Rattle.rdm_agent.proofs.Common.{Mute, Other, Failed, Silent, One, Acked, Noise, MuteAck, is_acked, acked_uid}
-use Rattle.rdm_agent.proofs.Common.{acked_in, FailureIsLast}
+use Rattle.rdm_agent.proofs.Common.{acked_in, FailureIsLast, Branch}
 use Rattle.rdm_agent.proofs.Members.{put-has}
 
 none_some : (u : ℕ) → None ≡ Some u → ⊥
@@ -12,7 +12,7 @@ none_some u h = cc
 -- only a present device acknowledges
 acked-mute : (present : List ℕ) (s new : LineState) (u v : ℕ) (ack : MuteAck) (b : Bool) → has present v ≡ b
     → MatchBool b (MuteMovesInNoise v s (Acked ack) new)
-    ((is_acked (Acked ack) ≡ false) × KeepsMuted v s new × Counts new 0 0 0)
+    ((is_acked (Acked ack) ≡ false) × KeepsMuted v s new × LineCounts new 0 0 0)
     → Some v ≡ Some u → has present u ≡ true
 acked-mute present s new u v ack true e step p = subst (λ o. of_option o) p e
   where

@@ -17,8 +17,8 @@ pub use Rattle.rdm_wire.proofs.DeviceLemmas.{uids_of-with_device}
 pub use Rattle.rdm_wire.proofs.EachAfterLemmas.{EachAfter-push}
 pub use Rattle.rdm_wire.specs.Devices.{uids_of, with_device}
 pub use Rattle.rdm_wire.specs.Honest.{Seen, Heard, Asked, LineState, is_acked, before_run, HonestStep, HonestTo}
-pub use Rattle.rdm_wire.specs.Honest.{HonestTrace, Chain, Counts, due_in, KeepsMuted, MuteMoves, HonestToStep, MayReply}
-pub use Rattle.rdm_wire.specs.Honest.{lost_after}
+pub use Rattle.rdm_wire.specs.Honest.{HonestTrace, Chain, LineCounts, due_in, KeepsMuted, MuteMoves, HonestToStep}
+pub use Rattle.rdm_wire.specs.Honest.{lost_after, MayReply}
 pub use Rattle.rdm_wire.specs.Honest.Asked.{Mute, Branch, Unmute, Other}
 pub use Rattle.rdm_wire.specs.Honest.Heard.{Silent, Acked, Failed, One, Noise}
 pub use Rattle.rdm_wire.specs.HonestOver.{HonestOver}

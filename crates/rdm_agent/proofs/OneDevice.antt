@@ -3,7 +3,7 @@ use Rattle.rdm_agent.proofs.Common.{◌≡◌, ℕ, ◌+◌, ◌≤◌, Bool, tr
 use Rattle.rdm_agent.proofs.Common.{append_assoc, Some, refl, sym, ap, ◌∙◌, subst, inl, inr, true≢false, arith, ◌⊎◌}
 use Rattle.rdm_agent.proofs.Common.{◌≢◌, ◌==◌, MatchBool, AllByRecursion, eqb-true, eq-eqb, cases_Bool, has, is_within}
 use Rattle.rdm_agent.proofs.Common.{IsDevice, Asked, Heard, Seen, LineState, NoisyToStep, NoisyTo, HonestTo, Chain}
-use Rattle.rdm_agent.proofs.Common.{Counts, due_in, lost_after, KeepsMuted, MuteMovesInNoise, is_acked, before_run}
+use Rattle.rdm_agent.proofs.Common.{LineCounts, due_in, lost_after, KeepsMuted, MuteMovesInNoise, is_acked, before_run}
 use Rattle.rdm_agent.proofs.Common.{Unmute, Branch, Mute, Other, Failed, Silent, muted_uid, muted_by, muted_in}
 use Rattle.rdm_agent.proofs.Common.{InSuccession, IsSilentBranch, IsLostMute, SearchShows, IsTried, IsCleared, Kind}
 use Rattle.rdm_agent.proofs.Common.{TRIES}
@@ -16,7 +16,7 @@ NotFailed e = e.heard ≢ Failed
 
 -- a device that is muted after a step was so before it, or the step asks it
 moved-mute : (u v : ℕ) (s new : LineState) (h : Heard) (b : Bool) → (u == v) ≡ b
-    → MatchBool b (MuteMovesInNoise u s h new) (KeepsMuted u s new × Counts new 0 0 0) → new.muted u ≡ true
+    → MatchBool b (MuteMovesInNoise u s h new) (KeepsMuted u s new × LineCounts new 0 0 0) → new.muted u ≡ true
     → (s.muted u ≡ true) ⊎ (muted_uid (Mute v) ≡ Some u)
 moved-mute u v s new h true e step m = inr (ap Some (sym (eqb-true u v e)))
 moved-mute u v s new h false e step m = inl (sym step.0 ∙ m)
@@ -80,8 +80,8 @@ lost_branch u lo hi s new within unmuted step = record {
     due : due_in (u ∷ []) s.muted lo hi ≡ u ∷ []
     due = rw (within, unmuted) refl
 
-    moves : KeepsMuted u s new × Counts new (s.lost_branches + 1) 0 0
-    moves = subst (λ d. KeepsMuted u s new × Counts new (lost_after d Silent s.lost_branches) 0 0) due step
+    moves : KeepsMuted u s new × LineCounts new (s.lost_branches + 1) 0 0
+    moves = subst (λ d. KeepsMuted u s new × LineCounts new (lost_after d Silent s.lost_branches) 0 0) due step
 
 -- no more than four are lost in a row
 pub silences : (u lo hi : ℕ) (s : LineState) (run rest : List Seen) → is_within lo hi u ≡ true → s.muted u ≡ false
@@ -112,7 +112,7 @@ pub record LostMute (s new : LineState) : Type 0 where
 lost_mute : (u : ℕ) (s new : LineState) (h : Heard) → is_acked h ≡ false → NoisyToStep u s (Mute u) h new
     → LostMute s new
 lost_mute u s new h lost step =
-    of_moves (subst (λ b. MatchBool b (MuteMovesInNoise u s h new) (KeepsMuted u s new × Counts new 0 0 0))
+    of_moves (subst (λ b. MatchBool b (MuteMovesInNoise u s h new) (KeepsMuted u s new × LineCounts new 0 0 0))
     (eq-eqb u u refl) step)
   where
     of_moves : MuteMovesInNoise u s h new → LostMute s new

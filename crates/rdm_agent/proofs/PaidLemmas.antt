@@ -5,7 +5,7 @@ use Rattle.rdm_agent.proofs.Common.{nat_lt, ◌==◌, ◌⊎◌, ◌≢◌, Matc
 use Rattle.rdm_agent.proofs.Common.{or_cases, or_right, or_left, eqb-true, eqb-false, eq-eqb, ltb-true, ltb-false, has}
 use Rattle.rdm_agent.proofs.Common.{is_within, is_broadcast, with_uid, IsAscending, IsDevice, IsDeviceSet, uids_of}
 use Rattle.rdm_agent.proofs.Common.{with_device, MOST_DEVICES, uids_of-with_device, device_from, Span, whole, Heard}
-use Rattle.rdm_agent.proofs.Common.{LineState, KeepsMuted, Counts, due_in, is_acked}
+use Rattle.rdm_agent.proofs.Common.{LineState, KeepsMuted, LineCounts, due_in, is_acked}
 use Rattle.rdm_agent.proofs.Common.{Mute, Failed, Silent, One, Acked, Noise, MuteAck, Phase, AgentState}
 use Rattle.rdm_agent.proofs.Common.{to_phase, to_found, split, search_from, search_below, is_new, found_uids}
 use Rattle.rdm_agent.proofs.Common.{known_heard, heard_by_phase, Unmuting}
@@ -149,7 +149,7 @@ Ahead-found Quick present found more u grows (inr one_more) n ahead =
 -- what a mute of a device, or of an absent UID, leaves on a noisy line
 abbrev AfterMute : Bool → ℕ → LineState → Heard → LineState → Type 0
 AfterMute b u s h new =
-    MatchBool b (MuteMovesInNoise u s h new) ((is_acked h ≡ false) × KeepsMuted u s new × Counts new 0 0 0)
+    MatchBool b (MuteMovesInNoise u s h new) ((is_acked h ≡ false) × KeepsMuted u s new × LineCounts new 0 0 0)
 
 -- a mute unmutes nobody
 pub mute-keeps : (present : List ℕ) (s new : LineState) (u : ℕ) (h : Heard) → NoisyStep present s (Mute u) h new

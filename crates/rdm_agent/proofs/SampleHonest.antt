@@ -1,9 +1,9 @@
 -- The sample runs are an honest line's, but not if five replies in a row are lost.
 use Rattle.rdm_agent.proofs.Common.{◌≡◌, ℕ, zero, suc, ◌+◌, ◌≤◌, Bool, false, List, [], ◌∷◌, ◌++◌, length, take, drop}
 use Rattle.rdm_agent.proofs.Common.{refl, inl, inr, arith, ◌==◌, ◌⊎◌, AllByRecursion, Seen, LineState, HonestStep}
-use Rattle.rdm_agent.proofs.Common.{HonestTrace, NoisyTrace, NoisyTo, Chain, Counts, due_in, before_run, Unmute, Branch}
+use Rattle.rdm_agent.proofs.Common.{HonestTrace, NoisyTrace, NoisyTo, Chain, LineCounts, due_in, before_run, Unmute}
 use Rattle.rdm_agent.proofs.Common.{Mute, Heard, Silent, Failed, is_acked, ◌≢◌, sample_uid, sample_run, all_branch}
-use Rattle.rdm_agent.proofs.Common.{exchange}
+use Rattle.rdm_agent.proofs.Common.{exchange, Branch}
 use Rattle.std.proofs.Common.{replicate}
 use Rattle.rdm_agent.specs.SampleRun.{lossy_run}
 use Rattle.rdm_agent.proofs.OneDevice.{NotFailed, Begun, begin, silences, five_mutes}
@@ -26,7 +26,7 @@ line muted branches mutes unmutes = record {
   unmutes = unmutes;
 }
 
-pub counts : (muted : ℕ → Bool) (b m n : ℕ) → b ≤ 4 → m ≤ 4 → Counts (line muted b m n) b m n
+pub counts : (muted : ℕ → Bool) (b m n : ℕ) → b ≤ 4 → m ≤ 4 → LineCounts (line muted b m n) b m n
 counts muted b m n few_branches few_mutes = record {
   branches = refl;
   mutes = refl;

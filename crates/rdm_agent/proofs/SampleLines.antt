@@ -1,7 +1,7 @@
 -- Devices that collide, a line that fails, and one that is honest to one device alone.
 use Rattle.rdm_agent.proofs.Common.{◌≡◌, ℕ, Bool, true, false, cond, List, [], ◌∷◌, drop, refl, ap, inl, inr, arith}
 use Rattle.rdm_agent.proofs.Common.{◌==◌, MatchBool, has, LineState, HonestTo, HonestTrace, HonestStep, KeepsMuted}
-use Rattle.rdm_agent.proofs.Common.{MuteMoves, Counts, before_run, Mute, Failed, Silent, Noise, sample_uid}
+use Rattle.rdm_agent.proofs.Common.{MuteMoves, LineCounts, before_run, Mute, Failed, Silent, Noise, sample_uid}
 use Rattle.rdm_agent.specs.SampleRun.{other_uid, colliding_run, swept_run, failed_run, garbled_run}
 use Rattle.rdm_agent.proofs.SampleHonest.{none_muted, one_muted, line, counts, unmutes, silent}
 
@@ -94,7 +94,7 @@ no_noise present old new step = by_test (has present other_uid) step.1
   where
     by_test : (b : Bool)
         → MatchBool b (MuteMoves other_uid old Noise new)
-        ((Noise ≡ Silent) × KeepsMuted other_uid old new × Counts new 0 0 0) → ⊥
+        ((Noise ≡ Silent) × KeepsMuted other_uid old new × LineCounts new 0 0 0) → ⊥
     by_test true (inl acked) = let never = acked.0 in cc
     by_test true (inr silent) = let never = silent.0 in cc
     by_test false nobody = let never = nobody.0 in cc

@@ -5,7 +5,7 @@ use rdm_join::Status;
 use rdm_log::{Entry, Log};
 use std::alloc::Global;
 use std::collections::VecDeque;
-use test_rig::{Ending, Found, Heard};
+use test_rig::{ActResult, Ending, Found};
 
 // After how many requests the memory that the process holds has to be settled.
 const SETTLED_AFTER: u64 = 1_000_000;
@@ -46,16 +46,17 @@ impl Tally {
 
     // A call has ended like this. A discovery finds both devices, or ends as the line fails. None: it can't end like
     // this on this line.
-    fn count(&mut self, heard: Heard) -> Option<()> {
+    fn count(&mut self, heard: ActResult) -> Option<()> {
         let count = match heard {
-            Heard::Answered(_, 1, 2) | Heard::Data(_, 231 | 462 | 693) => &mut self.completed,
-            Heard::Request(_, Status::Timeout) => &mut self.timeouts,
-            Heard::Request(_, Status::FailedToSend) => &mut self.failed,
-            Heard::Discovery(_, _, Ending::Faultless, Found::FirstAndSecond) => {
+            ActResult::Answered(_, 1, 2) | ActResult::Data(_, 231 | 462 | 693) =>
+                &mut self.completed,
+            ActResult::Request(_, Status::Timeout) => &mut self.timeouts,
+            ActResult::Request(_, Status::FailedToSend) => &mut self.failed,
+            ActResult::Discovery(_, _, Ending::Faultless, Found::FirstAndSecond) => {
                 &mut self.discovered
             }
-            Heard::Discovery(_, _, Ending::Faultless, _) => return None,
-            Heard::Discovery(_, _, _, _) => &mut self.aborted,
+            ActResult::Discovery(_, _, Ending::Faultless, _) => return None,
+            ActResult::Discovery(_, _, _, _) => &mut self.aborted,
             _ => return None,
         };
         *count = count.wrapping_add(1);
@@ -94,13 +95,12 @@ impl Waiting {
     }
 
     /// It has collected this. An outcome has to be that of its oldest call of this kind.
-    pub fn hear(&mut self, heard: Heard, told: &mut Tally) -> Option<()> {
+    pub fn hear(&mut self, heard: ActResult, told: &mut Tally) -> Option<()> {
         let (oldest, tag) = match heard {
-            Heard::Nothing => return Some(()),
-            Heard::Discovery(tag, _, _, _) => (self.discoveries.pop_front(), tag),
-            Heard::Answered(tag, _, _) | Heard::Data(tag, _) | Heard::Request(tag, _) => {
-                (self.requests.pop_front(), tag)
-            }
+            ActResult::Nothing => return Some(()),
+            ActResult::Discovery(tag, _, _, _) => (self.discoveries.pop_front(), tag),
+            ActResult::Answered(tag, _, _) | ActResult::Data(tag, _) | ActResult::Request(tag, _) =>
+                { (self.requests.pop_front(), tag) }
             _ => return None,
         };
         holds(oldest == Some(tag))?;

@@ -21,7 +21,7 @@ use std::marker::Brand;
 use std::sync::Wait;
 use std::sync::atomic::{AtomicU64, Ordering};
 use std::thread::{self, Threads};
-use test_rig::{AskNote, Heard, NOTHING_KEPT, Note, cancels, log};
+use test_rig::{ActResult, AskNote, NOTHING_KEPT, Note, cancels, log};
 
 // How often in a row a client that can do nothing tries before it gives up.
 const TRIES: u64 = 1_000_000_000;
@@ -235,7 +235,7 @@ impl Caller {
     }
 
     // Whether its queue has accepted its call, and what it has collected. The call after a request is drawn.
-    fn note(&mut self, made: bool, heard: Heard) -> Option<bool> {
+    fn note(&mut self, made: bool, heard: ActResult) -> Option<bool> {
         if made && self.asks_next {
             self.waiting.wait_for_discovery(&mut self.told)?;
             self.asks_next = false;
@@ -245,7 +245,7 @@ impl Caller {
             self.asks_next = self.discovers && self.random.below(50) == 0;
         }
         self.waiting.hear(heard, &mut self.told)?;
-        Some(made || heard != Heard::Nothing)
+        Some(made || heard != ActResult::Nothing)
     }
 
     // The tag of its next request. No other client has it. One in 8 asks for the parameter in three parts.

@@ -19,7 +19,7 @@ use rdm_wire::Frame;
 use std::alloc::Global;
 use std::marker::Brand;
 use std::sync::Wait;
-use test_rig::{AskNote, Heard, Note, cancels, log, request, told};
+use test_rig::{ActResult, AskNote, Note, cancels, log, request, told};
 
 /// Times requests of one client and of sixteen.
 pub fn time<R: Times + Wait>(bench: &Bench<R>) -> Option<()> {
@@ -143,7 +143,7 @@ impl<L: Ledger, R: Wait, X: Line + Drop> Served for Locked<'_, L, R, X> {
         collect_bytes(self.bench.rt, self.clients.get_mut(client)?)
     }
 
-    fn collect(&mut self, client: usize) -> Option<Heard> {
+    fn collect(&mut self, client: usize) -> Option<ActResult> {
         Some(collect(self.bench.rt, self.clients.get_mut(client)?))
     }
 
@@ -331,7 +331,7 @@ impl<J: ViewHistory, W: Wait + Drop, X: Line> Served for Rings<J, Shown<J>, W, X
         collect_bytes(&(), self.lanes.clients.get_mut(client)?)
     }
 
-    fn collect(&mut self, client: usize) -> Option<Heard> {
+    fn collect(&mut self, client: usize) -> Option<ActResult> {
         Some(collect(&(), self.lanes.clients.get_mut(client)?))
     }
 
@@ -383,7 +383,7 @@ pub fn ask<R, C: Client<Note, AskNote, R>>(rt: &R, client: &mut C, tag: u64) -> 
 
 /// What it collects.
 #[inline(never)]
-pub fn collect<R, C: Client<Note, AskNote, R>>(rt: &R, client: &mut C) -> Heard
+pub fn collect<R, C: Client<Note, AskNote, R>>(rt: &R, client: &mut C) -> ActResult
     ensures { C.same client.old client.new }
 {
     told(&client.collect(rt))

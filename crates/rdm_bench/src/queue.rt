@@ -17,7 +17,7 @@ use rdm_log::{
 use rdm_queue::{Controller, Session};
 use rdm_wire::{DeviceSet, Frame};
 use std::alloc::Global;
-use test_rig::{Heard, completion_told, ending_by, found_in, log, request};
+use test_rig::{ActResult, completion_told, ending_by, found_in, log, request};
 
 // How many devices are on the line of discoveries.
 const DEVICES: usize = 16;
@@ -114,7 +114,7 @@ impl<X: Line + Drop> Served for Clients<X> {
     }
 
     #[inline(never)]
-    fn collect(&mut self, client: usize) -> Option<Heard> {
+    fn collect(&mut self, client: usize) -> Option<ActResult> {
         let client = id_of(client);
         if let Some((number, done)) = self.queue.next_completion(client) {
             return Some(completion_told(&Some((tag_of(number), done))));
@@ -122,10 +122,10 @@ impl<X: Line + Drop> Served for Clients<X> {
         let set = &mut self.found;
         let end = either!(&mut self.queue, queue, queue.next_discovery(client, set));
         let Some(end) = end else {
-            return Some(Heard::Nothing);
+            return Some(ActResult::Nothing);
         };
         let found = found_in(&self.found);
-        Some(Heard::Discovery(end.number, end.run, ending_by(end.fault), found))
+        Some(ActResult::Discovery(end.number, end.run, ending_by(end.fault), found))
     }
 
     fn work(&mut self, turns: u64) -> Option<()> {

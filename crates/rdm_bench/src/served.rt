@@ -9,7 +9,7 @@ use rdm_log::{Config, Entry, Log, MOST_PLACES, Page};
 use rdm_wire::Uid;
 use std::alloc::Global;
 use std::mem;
-use test_rig::{Ending, Found, Heard, LONG, log};
+use test_rig::{ActResult, Ending, Found, LONG, log};
 
 /// How many entries the log of a soak has free if it is drained, beside one for a close.
 pub const ENTRIES: usize = 1_000;
@@ -38,7 +38,7 @@ pub trait Served {
     fn collect_bytes(&mut self, client: usize) -> Option<usize>;
 
     /// A client collects its next outcome, if there is one.
-    fn collect(&mut self, client: usize) -> Option<Heard>;
+    fn collect(&mut self, client: usize) -> Option<ActResult>;
 
     /// The worker makes this many turns.
     fn work(&mut self, turns: u64) -> Option<()>;
@@ -184,7 +184,7 @@ impl<S: Served> Turns<'_, S> {
         holds(self.served.ask(0, 0)?)?;
         self.served.work(frames)?;
         match self.served.collect(0)? {
-            Heard::Discovery(_, _, Ending::Faultless, Found::Others(found)) => {
+            ActResult::Discovery(_, _, Ending::Faultless, Found::Others(found)) => {
                 holds(found == devices)?;
                 Some(frames)
             }

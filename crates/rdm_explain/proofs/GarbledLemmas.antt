@@ -8,7 +8,7 @@ use Rattle.std.proofs.lemmas.List.{length-take-le}
 use Rattle.std.proofs.lemmas.Bool.{and_parts, and_from, or_cases, cases_lt, eqb-true, eq-eqb, leb-true}
 use Rattle.rdm_wire.specs.Uid.{has, is_broadcast, is_within, IsAscending, IsDevice, IsDeviceSet}
 use Rattle.rdm_wire.specs.Honest.{Asked, Heard, Seen, LineState, HonestStep, HonestTrace, Chain, MayReply, MuteMoves}
-use Rattle.rdm_wire.specs.Honest.{KeepsMuted, Counts, due_in, before_run, is_acked}
+use Rattle.rdm_wire.specs.Honest.{KeepsMuted, LineCounts, due_in, before_run, is_acked}
 use Rattle.rdm_agent.proofs.LeftLemmas.{at_most_one}
 use Rattle.rdm_wire.specs.Honest.Asked.{Unmute, Branch, Mute, Other}
 use Rattle.rdm_wire.specs.Honest.Heard.{Failed, Silent, One, Acked, Noise}
@@ -212,7 +212,7 @@ within_itself u v is =
     let high : v ≤ u = leb-true v u both.1 in omega (arith, low, high)
 
 after_mute : (present : List ℕ) (old new : LineState) (u : ℕ) (h : Heard) (b : Bool) → h ≢ Silent → is_acked h ≡ false
-    → MatchBool b (MuteMoves u old h new) ((h ≡ Silent) × KeepsMuted u old new × Counts new 0 0 0) → ⊥
+    → MatchBool b (MuteMoves u old h new) ((h ≡ Silent) × KeepsMuted u old new × LineCounts new 0 0 0) → ⊥
 after_mute present old new u h true loud wrong (inl acked) = true≢false (sym acked.0 ∙ wrong)
 after_mute present old new u h true loud wrong (inr silent) = loud silent.0
 after_mute present old new u h false loud wrong absent = loud absent.0
@@ -260,7 +260,7 @@ step_keeps present old new u (Branch lo hi) h other step is = step.1 u ∙ is
 step_keeps present old new u (Mute v) h other step is = by_uid (v == u) refl
   where
     by_present : (b : Bool) → v ≡ u
-        → MatchBool b (MuteMoves v old h new) ((h ≡ Silent) × KeepsMuted v old new × Counts new 0 0 0)
+        → MatchBool b (MuteMoves v old h new) ((h ≡ Silent) × KeepsMuted v old new × LineCounts new 0 0 0)
         → new.muted u ≡ true
     by_present true same (inl acked) = ap new.muted (sym same) ∙ acked.1
     by_present true same (inr silent) = elim silent.1 [
@@ -283,7 +283,7 @@ step_mutes present old new u a h is acked step =
     unsilent silent = true≢false (sym (sym (ap is_acked silent) ∙ acked))
 
     by_present : (b : Bool) → has present u ≡ b
-        → MatchBool b (MuteMoves u old h new) ((h ≡ Silent) × KeepsMuted u old new × Counts new 0 0 0)
+        → MatchBool b (MuteMoves u old h new) ((h ≡ Silent) × KeepsMuted u old new × LineCounts new 0 0 0)
         → (has present u ≡ true) × (new.muted u ≡ true)
     by_present true there (inl moves) = (there, moves.1)
     by_present true there (inr silent) = absurd (unsilent silent.0)

@@ -6,7 +6,7 @@ use Rattle.std.specs.List.{AllByRecursion}
 use Rattle.std.proofs.lemmas.List.{map-append}
 use Rattle.std.proofs.lemmas.Bool.{cases_Bool, and_parts}
 use Rattle.rdm_wire.specs.Uid.{has, is_within}
-use Rattle.rdm_wire.specs.Honest.{Asked, Heard, Seen, LineState, HonestStep, HonestTrace, Chain, Counts, MayReply}
+use Rattle.rdm_wire.specs.Honest.{Asked, Heard, Seen, LineState, HonestStep, HonestTrace, Chain, LineCounts, MayReply}
 use Rattle.rdm_wire.specs.Honest.{HonestToStep, MuteMoves, KeepsMuted, due_in, before_run, is_acked}
 use Rattle.rdm_wire.specs.Honest.Asked.{Unmute, Branch, Mute, Other}
 use Rattle.rdm_wire.specs.Honest.Heard.{Silent}
@@ -73,7 +73,7 @@ step_keeps u old new Other h other step is = step.0 ∙ is
 step_keeps u old new (Branch lo hi) h other step is = step.0 ∙ is
 step_keeps u old new (Mute v) h other step is = by_uid (u == v) step
   where
-    by_uid : (b : Bool) → MatchBool b (MuteMoves u old h new) (KeepsMuted u old new × Counts new 0 0 0)
+    by_uid : (b : Bool) → MatchBool b (MuteMoves u old h new) (KeepsMuted u old new × LineCounts new 0 0 0)
         → new.muted u ≡ true
     by_uid true (inl acked) = acked.1
     by_uid true (inr silent) = elim silent.1 [ inl muted ↦ muted | inr keeps ↦ keeps ∙ is ]
@@ -88,7 +88,7 @@ step_mutes u old new a h is acked step =
     itself : (v : ℕ) → (v == v) ≡ true
     itself v = search rules
 
-    by_uid : (b : Bool) → b ≡ true → MatchBool b (MuteMoves u old h new) (KeepsMuted u old new × Counts new 0 0 0)
+    by_uid : (b : Bool) → b ≡ true → MatchBool b (MuteMoves u old h new) (KeepsMuted u old new × LineCounts new 0 0 0)
         → new.muted u ≡ true
     by_uid true same (inl moves) = moves.1
     by_uid true same (inr silent) = absurd (true≢false (sym acked ∙ ap is_acked silent.0))
@@ -126,7 +126,7 @@ no_step us ps present x s new Other h listed known stay loud nobody step = nobod
 no_step us ps present x s new (Mute u) h listed known stay loud nobody step = by_present (has present u) refl step.1
   where
     by_present : (b : Bool) → has present u ≡ b
-        → MatchBool b (MuteMoves u s h new) ((h ≡ Silent) × KeepsMuted u s new × Counts new 0 0 0) → ⊥
+        → MatchBool b (MuteMoves u s h new) ((h ≡ Silent) × KeepsMuted u s new × LineCounts new 0 0 0) → ⊥
     by_present true here moves = elim (listed u here) [
       | inl stays ↦ true≢false (sym stays ∙ nobody.0)
       | inr passes ↦ true≢false (sym passes ∙ nobody.1)

@@ -11,10 +11,10 @@ use Rattle.rdm_explain.specs.declared.exchange.Exchange.{Exchange}
 use Rattle.rdm_explain.specs.Exchanges.{seen_of, seen_all}
 use Rattle.rdm_explain.specs.Certificates.{BeginsByUnmutes, IsFirstMissing}
 
-abbrev Begins : ℕ → List Asked → Type 0
-Begins n l = take n l ≡ replicate n Unmute
+abbrev UnmutesFirst : ℕ → List Asked → Type 0
+UnmutesFirst n l = take n l ≡ replicate n Unmute
 
-fewer : (m n : ℕ) (l : List Asked) → m ≤ n → Begins n l → Begins m l
+fewer : (m n : ℕ) (l : List Asked) → m ≤ n → UnmutesFirst n l → UnmutesFirst m l
 fewer zero n l less e = refl
 fewer (suc m) zero l less e = absurd (omega arith)
 fewer (suc m) (suc n) [] less e = absurd (none e)
@@ -24,12 +24,13 @@ fewer (suc m) (suc n) [] less e = absurd (none e)
 fewer (suc m) (suc n) (a ∷ l) less e =
     ap (λ b. b ∷ take m l) (heads e) ∙ ap (λ k. Unmute ∷ k) (fewer m n l (omega arith) (tails e))
 
-here_is : (n : ℕ) (l : List Asked) (d : Asked) → n < length l → Begins (suc n) l → get_or l n d ≡ Unmute
+here_is : (n : ℕ) (l : List Asked) (d : Asked) → n < length l → UnmutesFirst (suc n) l → get_or l n d ≡ Unmute
 here_is n [] d within e = absurd (omega arith)
 here_is zero (a ∷ l) d within e = heads e
 here_is (suc n) (a ∷ l) d within e = here_is n l d (omega arith) (tails e)
 
-one_more : (n : ℕ) (l : List Asked) (d : Asked) → n < length l → get_or l n d ≡ Unmute → Begins n l → Begins (suc n) l
+one_more : (n : ℕ) (l : List Asked) (d : Asked) → n < length l → get_or l n d ≡ Unmute → UnmutesFirst n l
+    → UnmutesFirst (suc n) l
 one_more n [] d within is e = absurd (omega arith)
 one_more zero (a ∷ l) d within is e = ap (λ b. b ∷ []) is
 one_more (suc n) (a ∷ l) d within is e =
@@ -60,7 +61,7 @@ missing_here xs at e within read few before other = record {
   never = λ all. here (fewer (at + 1) 3 (asks xs) (omega (arith, few)) all);
 }
   where
-    here : Begins (at + 1) (asks xs) → ⊥
+    here : UnmutesFirst (at + 1) (asks xs) → ⊥
     here all = other (sym (asked_at xs at e within read)
         ∙ here_is at (asks xs) (seen_of e).asked (let long = long_as xs in omega (arith, long, within))
-        (subst (λ k. Begins k (asks xs)) (next_is at) all))
+        (subst (λ k. UnmutesFirst k (asks xs)) (next_is at) all))

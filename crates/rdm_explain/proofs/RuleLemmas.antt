@@ -18,11 +18,11 @@ abbrev pub exchange_of : Asked → Heard → Seen
 exchange_of a h = record { asked = a; heard = h }
 
 -- the replies that the standing counts as lost are the last ones
-pub record Ends (u : ℕ) (x : List Seen) (p : Standing) : Type 0 where
+pub record Streaks (u : ℕ) (x : List Seen) (p : Standing) : Type 0 where
   pub branches : EndsWith p.lost_branches (IsSilentAround u) x
   pub mutes : EndsWith p.lost_mutes (IsSilentMute u) x
 
-none : (u : ℕ) (x : List Seen) (p : Standing) → p.lost_branches ≡ 0 → p.lost_mutes ≡ 0 → Ends u x p
+none : (u : ℕ) (x : List Seen) (p : Standing) → p.lost_branches ≡ 0 → p.lost_mutes ≡ 0 → Streaks u x p
 none u x p b m = record {
   branches = subst (λ n. EndsWith n (IsSilentAround u) x) (sym b) (ends_none _ x);
   mutes = subst (λ n. EndsWith n (IsSilentMute u) x) (sym m) (ends_none _ x);
@@ -41,27 +41,27 @@ around u lo hi h e =
     let both = and_parts (is_within lo hi u) (is_silent h) e in
     record { lo = lo; hi = hi; asked = refl; within = both.0; silent = silent_is h both.1 }
 
-ends_branch : (u lo hi : ℕ) (x : List Seen) (p : Standing) (h : Heard) → Ends u x p
-    → Ends u (x ++ exchange_of (Branch lo hi) h ∷ []) (after_asked u p (Branch lo hi) h)
+ends_branch : (u lo hi : ℕ) (x : List Seen) (p : Standing) (h : Heard) → Streaks u x p
+    → Streaks u (x ++ exchange_of (Branch lo hi) h ∷ []) (after_asked u p (Branch lo hi) h)
 ends_branch u lo hi x p h ends = by_test (is_within lo hi u && is_silent h) refl
   where
     by_test : (b : Bool) → (is_within lo hi u && is_silent h) ≡ b
-        → Ends u (x ++ exchange_of (Branch lo hi) h ∷ []) (after_branch p (if b then p.lost_branches + 1 else 0))
+        → Streaks u (x ++ exchange_of (Branch lo hi) h ∷ []) (after_branch p (if b then p.lost_branches + 1 else 0))
     by_test true e = record {
       branches = ends_more _ _ x _ ends.branches (around u lo hi h e);
       mutes = ends_none _ _;
     }
     by_test false e = none u _ _ refl refl
 
-ends_mute : (u v : ℕ) (x : List Seen) (p : Standing) (h : Heard) → Ends u x p
-    → Ends u (x ++ exchange_of (Mute v) h ∷ []) (after_asked u p (Mute v) h)
+ends_mute : (u v : ℕ) (x : List Seen) (p : Standing) (h : Heard) → Streaks u x p
+    → Streaks u (x ++ exchange_of (Mute v) h ∷ []) (after_asked u p (Mute v) h)
 ends_mute u v x p h ends = by_test (u == v) refl
   where
     e : Seen
     e = exchange_of (Mute v) h
 
     by_silent : (b : Bool) → u ≡ v → (is_silent h && nat_le (p.lost_mutes + 1) 4) ≡ b
-        → Ends u (x ++ e ∷ []) (if b then record (with_counts p 0 (p.lost_mutes + 1) 0) { muted = is_alive p }
+        → Streaks u (x ++ e ∷ []) (if b then record (with_counts p 0 (p.lost_mutes + 1) 0) { muted = is_alive p }
         else record (with_counts p 0 0 0) { muted = false; unmuted = false })
     by_silent true same is = record {
       branches = ends_none _ _;
@@ -71,7 +71,7 @@ ends_mute u v x p h ends = by_test (u == v) refl
     by_silent false same is = none u _ _ refl refl
 
     by_acked : (b : Bool) → u ≡ v
-        → Ends u (x ++ e ∷ []) (if b then record (with_counts p 0 0 0) { muted = is_alive p; unmuted = false }
+        → Streaks u (x ++ e ∷ []) (if b then record (with_counts p 0 0 0) { muted = is_alive p; unmuted = false }
         else (if is_silent h && nat_le (p.lost_mutes + 1) 4
         then record (with_counts p 0 (p.lost_mutes + 1) 0) { muted = is_alive p }
         else record (with_counts p 0 0 0) { muted = false; unmuted = false }))
@@ -79,15 +79,15 @@ ends_mute u v x p h ends = by_test (u == v) refl
     by_acked false same = by_silent (is_silent h && nat_le (p.lost_mutes + 1) 4) same refl
 
     by_test : (b : Bool) → (u == v) ≡ b
-        → Ends u (x ++ e ∷ []) (if b then after_mute p h else with_counts p 0 0 0)
+        → Streaks u (x ++ e ∷ []) (if b then after_mute p h else with_counts p 0 0 0)
     by_test true is = by_acked (is_acked h) (eqb-true u v is)
     by_test false is = none u _ _ refl refl
 
-ends_asked : (u : ℕ) (x : List Seen) (p : Standing) (a : Asked) (h : Heard) → Ends u x p
-    → Ends u (x ++ exchange_of a h ∷ []) (after_asked u p a h)
+ends_asked : (u : ℕ) (x : List Seen) (p : Standing) (a : Asked) (h : Heard) → Streaks u x p
+    → Streaks u (x ++ exchange_of a h ∷ []) (after_asked u p a h)
 ends_asked u x p Unmute h ends = by_third (nat_le 3 (p.unmutes + 1))
   where
-    by_third : (b : Bool) → Ends u (x ++ exchange_of Unmute h ∷ [])
+    by_third : (b : Bool) → Streaks u (x ++ exchange_of Unmute h ∷ [])
         (if b then record (with_counts p 0 0 (p.unmutes + 1)) { muted = false; unmuted = is_alive p }
         else record (with_counts p 0 0 (p.unmutes + 1)) { unmuted = is_alive p })
     by_third true = none u _ _ refl refl
@@ -97,30 +97,30 @@ ends_asked u x p (Mute v) h ends = ends_mute u v x p h ends
 ends_asked u x p Other h ends = none u _ _ refl refl
 
 -- unless the line has failed
-abbrev pub EndsUnlessStopped : ℕ → List Seen → Standing → Type 0
-EndsUnlessStopped u x p = p.stopped ≡ false → Ends u x p
+abbrev pub StreaksUnlessStopped : ℕ → List Seen → Standing → Type 0
+StreaksUnlessStopped u x p = p.stopped ≡ false → Streaks u x p
 
 stays_stopped : (u : ℕ) (p : Standing) (e : Seen) → p.stopped ≡ true → after u p e ≡ p
 stays_stopped u p e is = rw is refl
 
-pub ends_after : (u : ℕ) (x : List Seen) (p : Standing) (e : Seen) → EndsUnlessStopped u x p
-    → EndsUnlessStopped u (x ++ e ∷ []) (after u p e)
+pub ends_after : (u : ℕ) (x : List Seen) (p : Standing) (e : Seen) → StreaksUnlessStopped u x p
+    → StreaksUnlessStopped u (x ++ e ∷ []) (after u p e)
 ends_after u x p e ends on = by_stopped (cases_Bool p.stopped) (heard_failed e.heard)
   where
     by_stopped : (p.stopped ≡ true) ⊎ (p.stopped ≡ false) → (e.heard ≡ Failed) ⊎ (e.heard ≢ Failed)
-        → Ends u (x ++ e ∷ []) (after u p e)
+        → Streaks u (x ++ e ∷ []) (after u p e)
     by_stopped (inl stopped) h =
         absurd (true≢false (sym stopped ∙ ap (λ q. q.stopped) (sym (stays_stopped u p e stopped)) ∙ on))
     by_stopped (inr running) (inl failed) =
         absurd (true≢false (ap (λ q. q.stopped) (sym (after_failure u p e running failed)) ∙ on))
     by_stopped (inr running) (inr ok) =
-        subst (λ q. Ends u (x ++ e ∷ []) q) (sym (after_other u p e running ok))
+        subst (λ q. Streaks u (x ++ e ∷ []) q) (sym (after_other u p e running ok))
         (ends_asked u x p e.asked e.heard (ends running))
 
 abbrev Dies : ℕ → Standing → Asked → Heard → Type 0
 Dies u p a h = is_alive (after_asked u p a h) ≡ false
 
-dies_branch : (u lo hi : ℕ) (x : List Seen) (p : Standing) (h : Heard) → is_alive p ≡ true → Ends u x p
+dies_branch : (u lo hi : ℕ) (x : List Seen) (p : Standing) (h : Heard) → is_alive p ≡ true → Streaks u x p
     → Dies u p (Branch lo hi) h → EndsWith 5 (IsSilentAround u) (x ++ exchange_of (Branch lo hi) h ∷ [])
 dies_branch u lo hi x p h alive ends = by_test (is_within lo hi u && is_silent h) refl
   where
@@ -164,7 +164,7 @@ garbled u v x h same ok loud not_acked = record {
   );
 }
 
-dies_mute : (u v : ℕ) (x : List Seen) (p : Standing) (h : Heard) → is_alive p ≡ true → Ends u x p → h ≢ Failed
+dies_mute : (u v : ℕ) (x : List Seen) (p : Standing) (h : Heard) → is_alive p ≡ true → Streaks u x p → h ≢ Failed
     → Dies u p (Mute v) h → EndsBy u (rule_heard (Mute v) h) (x ++ exchange_of (Mute v) h ∷ [])
 dies_mute u v x p h alive ends ok = by_test (u == v) refl
   where
@@ -191,14 +191,14 @@ dies_mute u v x p h alive ends ok = by_test (u == v) refl
     by_test true is dead = by_heard h ok (eqb-true u v is) dead
     by_test false is dead = absurd (true≢false (sym alive ∙ dead))
 
-dies_asked : (u : ℕ) (x : List Seen) (p : Standing) (a : Asked) (h : Heard) → is_alive p ≡ true → Ends u x p
+dies_asked : (u : ℕ) (x : List Seen) (p : Standing) (a : Asked) (h : Heard) → is_alive p ≡ true → Streaks u x p
     → h ≢ Failed → Dies u p a h → EndsBy u (rule_heard a h) (x ++ exchange_of a h ∷ [])
 dies_asked u x p Unmute h alive ends ok dead = absurd (unmute_lives u p h alive dead)
 dies_asked u x p (Branch lo hi) h alive ends ok dead = dies_branch u lo hi x p h alive ends dead
 dies_asked u x p (Mute v) h alive ends ok dead = dies_mute u v x p h alive ends ok dead
 dies_asked u x p Other h alive ends ok dead = absurd (true≢false (sym alive ∙ dead))
 
-pub breaks_rule : (u : ℕ) (x : List Seen) (p : Standing) (e : Seen) → is_alive p ≡ true → EndsUnlessStopped u x p
+pub breaks_rule : (u : ℕ) (x : List Seen) (p : Standing) (e : Seen) → is_alive p ≡ true → StreaksUnlessStopped u x p
     → is_alive (after u p e) ≡ false → EndsBy u (rule_by e) (x ++ e ∷ [])
 breaks_rule u x p e alive ends dead = by_stopped (cases_Bool p.stopped) (heard_failed e.heard)
   where

@@ -4,7 +4,7 @@ use Rattle.std.proofs.Common.{ap, ◌∙◌, subst, inl, inr, true≢false, arit
 use Rattle.std.specs.Prelude.{◌⊎◌, ◌≢◌, ◌==◌, nat_le, fold, MatchBool, if◌then◌else◌}
 use Rattle.std.proofs.lemmas.Bool.{cases_Bool, or_cases, and_parts, and_from, leb-true, leb-false, le-leb}
 use Rattle.rdm_wire.specs.Uid.{is_within}
-use Rattle.rdm_wire.specs.Honest.{Asked, Heard, Seen, LineState, HonestToStep, HonestTo, Chain, Counts, due_in}
+use Rattle.rdm_wire.specs.Honest.{Asked, Heard, Seen, LineState, HonestToStep, HonestTo, Chain, LineCounts, due_in}
 use Rattle.rdm_wire.specs.Honest.{lost_after, KeepsMuted, MuteMoves, UnmuteMoves, is_acked, is_silent, before_run}
 use Rattle.rdm_wire.specs.Honest.Asked.{Unmute, Branch, Mute, Other}
 use Rattle.rdm_wire.specs.Honest.Heard.{Failed, Silent, One, Acked, Noise}
@@ -66,7 +66,7 @@ unmuted_lost false m u n h e = refl
 
 -- after a branch
 branch_keeps : (u lo hi : ℕ) (p : Standing) (s new : LineState) (h : Heard) → Allows p u s → KeepsMuted u s new
-    → Counts new (lost_after (due_in (u ∷ []) s.muted lo hi) h s.lost_branches) 0 0
+    → LineCounts new (lost_after (due_in (u ∷ []) s.muted lo hi) h s.lost_branches) 0 0
     → Allows (after_branch p (if is_within lo hi u && is_silent h then p.lost_branches + 1 else 0)) u new
 branch_keeps u lo hi p s new h a keeps counts = record {
   may = of_may a.may;
@@ -137,7 +137,7 @@ branch_back u lo hi p new h a = of_may a.may
         )
 
 -- after an exchange that doesn't ask it
-quiet_keeps : (u : ℕ) (p : Standing) (s new : LineState) → Allows p u s → KeepsMuted u s new → Counts new 0 0 0
+quiet_keeps : (u : ℕ) (p : Standing) (s new : LineState) → Allows p u s → KeepsMuted u s new → LineCounts new 0 0 0
     → Allows (with_counts p 0 0 0) u new
 quiet_keeps u p s new a keeps counts = record {
   may = of_may a.may;
@@ -150,12 +150,12 @@ quiet_keeps u p s new a keeps counts = record {
     of_may (inr m) = inr (keeps ∙ m.0, m.1, counts.branches)
 
 abbrev Quiet : ℕ → Standing → LineState → Type 0
-Quiet u p new = (s : LineState) × Allows p u s × (KeepsMuted u s new × Counts new 0 0 0)
+Quiet u p new = (s : LineState) × Allows p u s × (KeepsMuted u s new × LineCounts new 0 0 0)
 
 quiet_back : (u : ℕ) (p : Standing) (new : LineState) → Allows (with_counts p 0 0 0) u new → Quiet u p new
 quiet_back u p new a = of_may a.may
   where
-    counts : new.lost_branches ≡ 0 → Counts new 0 0 0
+    counts : new.lost_branches ≡ 0 → LineCounts new 0 0 0
     counts b = record {
       branches = b;
       mutes = a.mutes;
@@ -170,7 +170,7 @@ quiet_back u p new a = of_may a.may
 
 -- after a mute of it
 acked_keeps : (u : ℕ) (p : Standing) (s new : LineState) (h : Heard) → is_acked h ≡ true → Allows p u s
-    → new.muted u ≡ true → Counts new 0 0 0 → Allows (after_mute p h) u new
+    → new.muted u ≡ true → LineCounts new 0 0 0 → Allows (after_mute p h) u new
 acked_keeps u p s new h acked a muted counts = rw acked (record {
   may = inl (muted, alive_of p u s a, counts.branches);
   mutes = counts.mutes;
@@ -178,7 +178,7 @@ acked_keeps u p s new h acked a muted counts = rw acked (record {
 })
 
 silent_keeps : (u : ℕ) (p : Standing) (s new : LineState) → Allows p u s
-    → (new.muted u ≡ true) ⊎ KeepsMuted u s new → Counts new 0 (s.lost_mutes + 1) 0
+    → (new.muted u ≡ true) ⊎ KeepsMuted u s new → LineCounts new 0 (s.lost_mutes + 1) 0
     → Allows (after_mute p Silent) u new
 silent_keeps u p s new a moves counts =
     let few : nat_le (p.lost_mutes + 1) 4 ≡ true = le-leb _ 4 (subst (λ n. n + 1 ≤ 4) a.mutes counts.few_mutes) in
@@ -234,7 +234,7 @@ silent_back : (u : ℕ) (p : Standing) (new : LineState) → p.lost_mutes + 1 �
     → Allows (record (with_counts p 0 (p.lost_mutes + 1) 0) { muted = is_alive p }) u new → Muted u p Silent new
 silent_back u p new few a = of_may a.may
   where
-    counts : (s : LineState) → Allows p u s → new.lost_branches ≡ 0 → Counts new 0 (s.lost_mutes + 1) 0
+    counts : (s : LineState) → Allows p u s → new.lost_branches ≡ 0 → LineCounts new 0 (s.lost_mutes + 1) 0
     counts s is b = record {
       branches = b;
       mutes = a.mutes ∙ ap (λ n. n + 1) (sym is.mutes);
@@ -268,7 +268,7 @@ mute_back u p new Silent a = by_few (cases_Bool (nat_le (p.lost_mutes + 1) 4))
 
 -- after an unmute
 unmute_keeps : (u : ℕ) (p : Standing) (s new : LineState) → Allows p u s → UnmuteMoves u s new
-    → Counts new 0 0 (s.unmutes + 1) → Allows (after_unmute p) u new
+    → LineCounts new 0 0 (s.unmutes + 1) → Allows (after_unmute p) u new
 unmute_keeps u p s new a moves counts = by_third (cases_Bool (nat_le 3 (p.unmutes + 1))) (cases_Bool (new.muted u))
   where
     same : new.unmutes ≡ p.unmutes + 1
@@ -304,7 +304,7 @@ unmute_back : (u : ℕ) (p : Standing) (new : LineState) (h : Heard) → Allows 
 unmute_back u p new h a = by_third (cases_Bool (nat_le 3 (p.unmutes + 1)))
   where
     counts : (s : LineState) → Allows p u s → new.lost_branches ≡ 0 → new.lost_mutes ≡ 0 → new.unmutes ≡ p.unmutes + 1
-        → Counts new 0 0 (s.unmutes + 1)
+        → LineCounts new 0 0 (s.unmutes + 1)
     counts s is b m n = record {
       branches = b;
       mutes = m;
@@ -364,7 +364,7 @@ keeps u p s new (Branch lo hi) h is step = branch_keeps u lo hi p s new h is ste
 keeps u p s new Other h is step = quiet_keeps u p s new is step.0 step.1
 keeps u p s new (Mute v) h is step = by_test (u == v) step
   where
-    by_test : (b : Bool) → MatchBool b (MuteMoves u s h new) (KeepsMuted u s new × Counts new 0 0 0)
+    by_test : (b : Bool) → MatchBool b (MuteMoves u s h new) (KeepsMuted u s new × LineCounts new 0 0 0)
         → Allows (if b then after_mute p h else with_counts p 0 0 0) u new
     by_test true moves = mute_keeps u p s new h is moves
     by_test false moves = quiet_keeps u p s new is moves.0 moves.1
@@ -377,7 +377,7 @@ back u p new Other h is = quiet_back u p new is
 back u p new (Mute v) h is = by_test (u == v) is
   where
     by_test : (b : Bool) → Allows (if b then after_mute p h else with_counts p 0 0 0) u new
-        → (s : LineState) × Allows p u s × MatchBool b (MuteMoves u s h new) (KeepsMuted u s new × Counts new 0 0 0)
+        → (s : LineState) × Allows p u s × MatchBool b (MuteMoves u s h new) (KeepsMuted u s new × LineCounts new 0 0 0)
     by_test true moves = mute_back u p new h moves
     by_test false moves = quiet_back u p new moves
 

@@ -23,7 +23,7 @@ use Rattle.rdm_explain.specs.body.Watching.{uids_watched, with_standing, heard_w
 use Rattle.rdm_explain.specs.body.Watching.{rule_by, IsCounted, Watches}
 use Rattle.rdm_explain.proofs.StandingLemmas.{honest_alive, alive_honest, alive_through}
 use Rattle.rdm_explain.proofs.EndLemmas.{ends_none}
-use Rattle.rdm_explain.proofs.RuleLemmas.{EndsUnlessStopped, ends_after, breaks_rule}
+use Rattle.rdm_explain.proofs.RuleLemmas.{StreaksUnlessStopped, ends_after, breaks_rule}
 
 -- one more exchange
 seen_push : (xs : List Exchange) (e : Exchange) → seen_all (xs ++ e ∷ []) ≡ seen_all xs ++ seen_of e ∷ []
@@ -33,14 +33,14 @@ standing_push : (u : ℕ) (x : List Seen) (e : Seen) → standing u (x ++ e ∷ 
 standing_push u x e = fold-append (after u) at_start x (e ∷ [])
 
 -- the lost replies are the last ones
-ends_fold : (u : ℕ) (front x : List Seen) (p : Standing) → EndsUnlessStopped u front p
-    → EndsUnlessStopped u (front ++ x) (fold (after u) p x)
-ends_fold u front [] p ends = subst (λ l. EndsUnlessStopped u l p) (sym (append-nil front)) ends
+ends_fold : (u : ℕ) (front x : List Seen) (p : Standing) → StreaksUnlessStopped u front p
+    → StreaksUnlessStopped u (front ++ x) (fold (after u) p x)
+ends_fold u front [] p ends = subst (λ l. StreaksUnlessStopped u l p) (sym (append-nil front)) ends
 ends_fold u front (e ∷ x) p ends =
-    subst (λ l. EndsUnlessStopped u l (fold (after u) (after u p e) x)) (append_assoc front (e ∷ []) x)
+    subst (λ l. StreaksUnlessStopped u l (fold (after u) (after u p e) x)) (append_assoc front (e ∷ []) x)
     (ends_fold u (front ++ e ∷ []) x (after u p e) (ends_after u front p e ends))
 
-ends_all : (u : ℕ) (x : List Seen) → EndsUnlessStopped u x (standing u x)
+ends_all : (u : ℕ) (x : List Seen) → StreaksUnlessStopped u x (standing u x)
 ends_all u x = ends_fold u [] x at_start (λ on. record { branches = ends_none _ []; mutes = ends_none _ [] })
 
 -- what isn't honest stays so

@@ -17,8 +17,8 @@ use Rattle.rdm_wire.specs.MuteAcks.{MuteAcked}
 use Rattle.rdm_wire.specs.MuteResponses.{mute_response, binding_bytes}
 use Rattle.rdm_wire.specs.Commands.{Writes, command_fields, command_read, asked_by_command, AsksNobody, AsksSo}
 use Rattle.rdm_wire.specs.Frames.{asked_in, heard_in, heard_bytes, one_or_noise, acked_or_noise}
-use Rattle.rdm_wire.specs.Honest.{Asked, Heard, LineState, HonestStep, MuteMoves, MayReply, Counts, due_in, lost_after}
-use Rattle.rdm_wire.specs.Honest.{is_silent, is_acked}
+use Rattle.rdm_wire.specs.Honest.{Asked, Heard, LineState, HonestStep, MuteMoves, MayReply, LineCounts, due_in}
+use Rattle.rdm_wire.specs.Honest.{is_silent, is_acked, lost_after}
 use Rattle.rdm_wire.specs.Honest.Asked.{Unmute as Unmuted, Branch as Branched, Mute as Muted, Other}
 use Rattle.rdm_wire.specs.Honest.Heard.{Silent, One}
 use Rattle.rdm_wire.specs.declared.command.Command.{Command}
@@ -92,7 +92,7 @@ heard_as x bytes event a s tn p q r =
     ∙ ap (λ y. heard_bytes y (fields_at x.exchange.0.items).tn (asked_in x.exchange.0.items) bytes) q
     ∙ ap (λ y. heard_bytes s y (asked_in x.exchange.0.items) bytes) r ∙ ap (λ y. heard_bytes s tn y bytes) p
 
-counts : (p muted : List ℕ) (b m n : ℕ) → b ≤ 4 → m ≤ 4 → Counts (line_state p muted b m n) b m n
+counts : (p muted : List ℕ) (b m n : ℕ) → b ≤ 4 → m ≤ 4 → LineCounts (line_state p muted b m n) b m n
 counts p muted b m n fb fm = record { branches = refl; mutes = refl; unmutes = refl; few_branches = fb; few_mutes = fm }
 
 keeps : (p : List ℕ) (new old : List ℕ) → new ≡ old → (v : ℕ) → muted_among p new v ≡ muted_among p old v
@@ -101,7 +101,7 @@ keeps p new old is v = ap (λ us. muted_among p us v) is
 -- a branch, by the devices that are due to answer it
 branch_step : (p : List ℕ) (old new : LineState) (lo hi : ℕ) (heard : Heard) (due : List ℕ)
     → due_in p old.muted lo hi ≡ due → MayReply due heard → ((u : ℕ) → new.muted u ≡ old.muted u)
-    → Counts new (lost_after due heard old.lost_branches) 0 0 → HonestStep p old (Branched lo hi) heard new
+    → LineCounts new (lost_after due heard old.lost_branches) 0 0 → HonestStep p old (Branched lo hi) heard new
 branch_step p old new lo hi heard due is may same count = rw is (may, same, count)
 
 -- a crossed branch asks nobody
@@ -125,7 +125,7 @@ no_device (v ∷ us) u own all = elim (cases_Bool (u == v)) [
 ]
 
 mute_absent : (p : List ℕ) (old new : LineState) (u : ℕ) (heard : Heard) → has p u ≡ false → heard ≡ Silent
-    → ((v : ℕ) → new.muted v ≡ old.muted v) → Counts new 0 0 0 → HonestStep p old (Muted u) heard new
+    → ((v : ℕ) → new.muted v ≡ old.muted v) → LineCounts new 0 0 0 → HonestStep p old (Muted u) heard new
 mute_absent p old new u heard absent silent same count = (λ v other. same v, rw absent (silent, same u, count))
 
 mute_present : (p : List ℕ) (old new : LineState) (u : ℕ) (heard : Heard) → has p u ≡ true
@@ -396,7 +396,7 @@ branch_after x next b m n so tn range reply sound asks is = by_devices
         (seen_as p old (line_state p next.muted 0 0 0) _ (Branched range.lo range.hi) _ h asks.asked q
         (branch_step p old (line_state p next.muted 0 0 0) range.lo range.hi h (uids_of_scene ds) (due ds e) may
         (keeps p next.muted x.before.muted same)
-        (subst (λ k. Counts (line_state p next.muted 0 0 0) k 0 0) (sym zero_lost)
+        (subst (λ k. LineCounts (line_state p next.muted 0 0 0) k 0 0) (sym zero_lost)
         (counts p next.muted 0 0 0 (omega arith) (omega arith)))))
 
     loses : (d : SceneDevice) (ds : List SceneDevice) → answering x.before.exchanges x.before range ≡ d ∷ ds

@@ -13,15 +13,15 @@ use Rattle.rdm_line.proofs.StepLemmas.{keeps_numbers, among_counts}
 use Rattle.rdm_line.proofs.LeavesLemmas.{acts_leave}
 
 -- what a step leaves of the losses and of the count
-record Counts (s new : SimState) : Type 0 where
+record CountsExchange (s new : SimState) : Type 0 where
   losses : new.losses ≡ s.losses
   exchanges : new.exchanges ≡ next_exchange s.exchanges
 
-step_counts : (x : Step) (next : SimState) → SimStep x.before x.exchange next → Counts x.before next
+step_counts : (x : Step) (next : SimState) → SimStep x.before x.exchange next → CountsExchange x.before next
 step_counts x next step = by_rule (is_among x.before.exchanges x.before.fails) step.rule
   where
     by_rule : (t : Bool) → MatchBool t (FailsOnly x.before x.exchange.1 next) (Exchanges x.before x.exchange next)
-        → Counts x.before next
+        → CountsExchange x.before next
     by_rule true h = record {
       losses = ap (λ (s : SimState). s.losses) h.only;
       exchanges = ap (λ (s : SimState). s.exchanges) h.only;

@@ -64,8 +64,8 @@ pub use Rattle.rdm_log.specs.log.Clients.{collected, accepts_by, asks_by}
 unfoldable pub use Rattle.rdm_log.specs.log.Clients.{answers_to}
 pub use Rattle.rdm_log.specs.log.Due.{GoesOn, NothingDue, AllAnswered, has_answer}
 pub use Rattle.rdm_log.specs.log.Entries.{Answered, answered_of, Accepted, AskedDiscovery, Sending, asked_of, Finished}
-pub use Rattle.rdm_log.specs.log.Entries.{sending_of, came_of, finished_of, accepted_of, collector_of, is_run, Traded}
-pub use Rattle.rdm_log.specs.log.Entries.{is_request, traded_of, verdict_on}
+pub use Rattle.rdm_log.specs.log.Entries.{sending_of, came_of, finished_of, accepted_of, collector_of, is_run}
+pub use Rattle.rdm_log.specs.log.Entries.{is_request, traded_of, verdict_on, OwnedExchange}
 unfoldable pub use Rattle.rdm_log.specs.log.Entries.{answers, asks, accepts, finishes, sends, cames, result, collectors}
 unfoldable pub use Rattle.rdm_log.specs.log.Entries.{joins, traded, of_request, verdicts}
 pub use Rattle.rdm_log.specs.log.History.{unanswered, unfinished, next_client, next_request, awaits_after, can_pause}

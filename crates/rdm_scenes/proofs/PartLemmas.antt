@@ -18,8 +18,8 @@ use Rattle.rdm_log.specs.declared.entry.Opening.{Opening}
 use Rattle.rdm_log.specs.declared.entry.Entry.{Entry}
 use Rattle.rdm_log.specs.declared.entry.Entry.TheVariants.{Join, Refuse, Accept, Ask, Send, Came, Finish, Answer}
 use Rattle.rdm_log.specs.declared.entry.Entry.TheVariants.{Collect, Pause, Resume, Close}
-use Rattle.rdm_log.specs.log.Entries.{Sending, Traded, traded_of, Answered, sending_of, answered_of, sends, cames}
-use Rattle.rdm_log.specs.log.Entries.{traded, answers, is_run}
+use Rattle.rdm_log.specs.log.Entries.{Sending, OwnedExchange, traded_of, Answered, sending_of, answered_of, sends}
+use Rattle.rdm_log.specs.log.Entries.{traded, answers, is_run, cames}
 use Rattle.rdm_log.specs.log.Entries.{exchange_of, exchanges}
 use Rattle.rdm_log.specs.log.Runs.{has_begun, open_run, next_run, run_exchanges, seen_of}
 use Rattle.rdm_log.specs.log.MaySend.{MaySendRun}
@@ -247,15 +247,16 @@ sends_parts o h each =
     }) (λ k e before p may. parts_step o k e before p may) h each
 
 -- the exchanges with them
-abbrev of_run : ℕ → List Traded → List Traded
-of_run r ts = filter (λ (t : Traded). is_run r t.owner) ts
+abbrev of_run : ℕ → List OwnedExchange → List OwnedExchange
+of_run r ts = filter (λ (t : OwnedExchange). is_run r t.owner) ts
 
 -- of frames that are all the run's, and of frames that none is
 all_own : (r : ℕ) (ss : List Sending) (es : List LineEvent) → AllOf r ss
     → of_run r (map traded_of (zip ss es)) ≡ map traded_of (zip ss es)
 all_own r [] es all = refl
 all_own r (s ∷ ss) [] all = refl
-all_own r (s ∷ ss) (e ∷ es) all = rw all.0 (ap (λ (ts : List Traded). traded_of (s, e) ∷ ts) (all_own r ss es all.1))
+all_own r (s ∷ ss) (e ∷ es) all =
+    rw all.0 (ap (λ (ts : List OwnedExchange). traded_of (s, e) ∷ ts) (all_own r ss es all.1))
 
 none_own : (r : ℕ) (ss : List Sending) (es : List LineEvent) → NoneOf r ss → of_run r (map traded_of (zip ss es)) ≡ []
 none_own r [] es all = refl
@@ -275,7 +276,7 @@ zip_parts [] vs es = refl
 zip_parts (a ∷ us) vs [] = sym (zip_nil vs)
 zip_parts (a ∷ us) vs (e ∷ es) = ap (λ (ps : List (Sending × LineEvent)). (a, e) ∷ ps) (zip_parts us vs es)
 
-seen_twice : (ts : List Traded) → map seen_of ts ≡ map seen_event (map exchange_of ts)
+seen_twice : (ts : List OwnedExchange) → map seen_of ts ≡ map seen_event (map exchange_of ts)
 seen_twice [] = refl
 seen_twice (t ∷ ts) = ap (λ (xs : List Seen). seen_event (t.frame, t.event) ∷ xs) (seen_twice ts)
 
@@ -296,13 +297,13 @@ run_part o h each r = record {
     rest : List LineEvent
     rest = drop (length p.before) (cames h)
 
-    first : List Traded
+    first : List OwnedExchange
     first = map traded_of (zip p.before (take (length p.before) (cames h)))
 
-    middle : List Traded
+    middle : List OwnedExchange
     middle = map traded_of (zip p.during (take (length p.during) rest))
 
-    last : List Traded
+    last : List OwnedExchange
     last = map traded_of (zip p.after (drop (length p.during) rest))
 
     all : map traded_of (zip (sends h) (cames h)) ≡ first ++ (middle ++ last)
@@ -310,7 +311,7 @@ run_part o h each r = record {
         ap (λ (ss : List Sending). map traded_of (zip ss (cames h))) p.whole
         ∙ ap (map traded_of) (zip_parts p.before (p.during ++ p.after) (cames h))
         ∙ map-append traded_of (zip p.before (take (length p.before) (cames h))) (zip (p.during ++ p.after) rest)
-        ∙ ap (λ (ts : List Traded). first ++ ts)
+        ∙ ap (λ (ts : List OwnedExchange). first ++ ts)
         (ap (map traded_of) (zip_parts p.during p.after rest)
         ∙ map-append traded_of (zip p.during (take (length p.during) rest))
         (zip p.after (drop (length p.during) rest)))
@@ -318,11 +319,11 @@ run_part o h each r = record {
     mine : of_run r (map traded_of (zip (sends h) (cames h))) ≡ middle
     mine =
         ap (of_run r) all
-        ∙ filter-append (λ (t : Traded). is_run r t.owner) first (middle ++ last)
-        ∙ ap (λ (ts : List Traded). ts ++ of_run r (middle ++ last))
+        ∙ filter-append (λ (t : OwnedExchange). is_run r t.owner) first (middle ++ last)
+        ∙ ap (λ (ts : List OwnedExchange). ts ++ of_run r (middle ++ last))
         (none_own r p.before (take (length p.before) (cames h)) p.others_before)
-        ∙ filter-append (λ (t : Traded). is_run r t.owner) middle last
-        ∙ ap (λ (ts : List Traded). of_run r middle ++ ts)
+        ∙ filter-append (λ (t : OwnedExchange). is_run r t.owner) middle last
+        ∙ ap (λ (ts : List OwnedExchange). of_run r middle ++ ts)
         (none_own r p.after (drop (length p.during) rest) p.others_after)
         ∙ append-nil (of_run r middle)
         ∙ all_own r p.during (take (length p.during) rest) p.own

@@ -30,12 +30,12 @@ ack_read-of u s n b a =
     size (inl two) = ap (λ t. t || (length a.response.param.items == 8)) (eq-eqb _ 2 two)
     size (inr eight) = ap (λ t. (length a.response.param.items == 2) || t) (eq-eqb _ 8 eight) ∙ or-true _
 
-    six : (p q r t v w x : Bool) → p ≡ true → q ≡ true → r ≡ true → t ≡ true → v ≡ true → w ≡ true → x ≡ true
+    all_hold : (p q r t v w x : Bool) → p ≡ true → q ≡ true → r ≡ true → t ≡ true → v ≡ true → w ≡ true → x ≡ true
         → (p && q && r && t && v && w && x) ≡ true
-    six p q r t v w x h1 h2 h3 h4 h5 h6 h7 = rw (h1, h2, h3, h4, h5, h6, h7) refl
+    all_hold p q r t v w x h1 h2 h3 h4 h5 h6 h7 = rw (h1, h2, h3, h4, h5, h6, h7) refl
 
     all : acks u s n a.response ≡ true
-    all = six _ _ _ _ _ _ _ (eq-eqb _ 0x11 (ap code_of_class a.class)) (eq-eqb _ 2 a.pid)
+    all = all_hold _ _ _ _ _ _ _ (eq-eqb _ 0x11 (ap code_of_class a.class)) (eq-eqb _ 2 a.pid)
         (eq-eqb _ 0 (ap code_of_ack a.ack)) (eq-eqb _ u a.source) (eq-eqb _ s a.dest) (eq-eqb _ n a.tn) (size a.size)
 
 -- the class and the type of these codes

@@ -7,7 +7,7 @@ use Rattle.std.proofs.lemmas.Slice.Eq.{bytes_eq-Decides}
 use Rattle.hex.specs.Hex.{IsBytes}
 use Rattle.rdm_wire.specs.Bytes.{uid_bytes}
 use Rattle.rdm_wire.specs.Uid.{is_broadcast}
-use Rattle.rdm_wire.specs.Packet.{Fields, Fits, fields_at, packet}
+use Rattle.rdm_wire.specs.Packet.{Fields, FieldsFit, fields_at, packet}
 use Rattle.rdm_wire.specs.CommandFrames.{unmute_fields, branch_fields, mute_fields, unmute_frame, branch_frame}
 use Rattle.rdm_wire.specs.CommandFrames.{mute_frame, all_devices, code_of_request_class}
 use Rattle.rdm_wire.specs.Commands.{Writes, command_fields, command_read, asked_by_command, AsksNobody, AsksSo}
@@ -25,7 +25,7 @@ use Rattle.rdm_wire.proofs.CommandReads.{param_bytes}
 use Rattle.rdm_wire.proofs.ReadBack.{HasBody}
 
 -- packets with other fields are other bytes
-differs : (b : List ℕ) (f g : Fields) → b ≡ packet f → Fits f → Fits g → f ≢ g → bytes_eq b (packet g) ≡ false
+differs : (b : List ℕ) (f g : Fields) → b ≡ packet f → FieldsFit f → FieldsFit g → f ≢ g → bytes_eq b (packet g) ≡ false
 differs b f g is fits also other = elim (cases_Bool (bytes_eq b (packet g))) [
   | inl same ↦ absurd (other
       (sym (fields_at-packet f fits) ∙ ap fields_at (sym is ∙ (bytes_eq-Decides b (packet g)).0 same)
@@ -40,14 +40,14 @@ asks_with : (b : List ℕ) (f : Fields) (u r m : Bool) → bytes_eq b (unmute_fr
     → asked_with b f ≡ cond u Unmuted (cond r (Branched (lower_bound f) (upper_bound f)) (cond m (Muted f.dest) Other))
 asks_with b f u r m p q t = rw (p, q, t) refl
 
-pub unmute_fits : (f : Fields) → Fits f → Fits (unmute_fields f.source f.tn)
+pub unmute_fits : (f : Fields) → FieldsFit f → FieldsFit (unmute_fields f.source f.tn)
 unmute_fits f fits = discovery_fits f all_devices 3 [] fits (omega arith) (omega arith) (omega arith)
 
-pub branch_fits : (f : Fields) (lo hi : ℕ) → Fits f → Fits (branch_fields lo hi f.source f.tn)
+pub branch_fits : (f : Fields) (lo hi : ℕ) → FieldsFit f → FieldsFit (branch_fields lo hi f.source f.tn)
 branch_fits f lo hi fits =
     discovery_fits f all_devices 1 (uid_bytes lo ++ uid_bytes hi) fits (omega arith) (omega arith) (omega arith)
 
-pub mute_fits : (f : Fields) → Fits f → Fits (mute_fields f.dest f.source f.tn)
+pub mute_fits : (f : Fields) → FieldsFit f → FieldsFit (mute_fields f.dest f.source f.tn)
 mute_fits f fits = discovery_fits f f.dest 2 [] fits fits.dest (omega arith) (omega arith)
 
 -- fields that say a command ask what it asks

@@ -8,7 +8,7 @@ use Rattle.hex.specs.Hex.{IsBytes}
 use Rattle.rdm_wire.specs.Bytes.{number_at, uid_bytes}
 use Rattle.rdm_wire.specs.Uid.{is_broadcast}
 use Rattle.rdm_wire.specs.Span.{Span}
-use Rattle.rdm_wire.specs.Packet.{Fields, Fits, fields_at, packet}
+use Rattle.rdm_wire.specs.Packet.{Fields, FieldsFit, fields_at, packet}
 use Rattle.rdm_wire.specs.CommandFrames.{code_of_request_class, discovery_fields, all_devices}
 use Rattle.rdm_wire.specs.Commands.{Writes, IsInOrder, command_fields, command_frame, FitsFrame, command_in}
 use Rattle.rdm_wire.specs.Commands.{discovery_in, branch_in, request_in, written_so, command_read}
@@ -152,8 +152,8 @@ record Sendable (f : Fields) (c : asked.Command) : Type 0 where
   frame : FitsFrame c f.source f.tn
   in_order : IsInOrder c
 
-pub discovery_fits : (f : Fields) (dest pid : ℕ) (param : List ℕ) → Fits f → dest < 2 ^ 48 → pid < 2 ^ 16
-    → length param ≤ 231 → Fits (discovery_fields dest pid param f.source f.tn)
+pub discovery_fits : (f : Fields) (dest pid : ℕ) (param : List ℕ) → FieldsFit f → dest < 2 ^ 48 → pid < 2 ^ 16
+    → length param ≤ 231 → FieldsFit (discovery_fields dest pid param f.source f.tn)
 discovery_fits f dest pid param fits d p few = record {
   dest = d;
   source = fits.source;
@@ -166,7 +166,7 @@ discovery_fits f dest pid param fits d p few = record {
   param = few;
 }
 
-branch_sendable : (f : Fields) (c : asked.Command) → IsBytes f.param → Fits f → branch_in f.param ≡ Some c
+branch_sendable : (f : Fields) (c : asked.Command) → IsBytes f.param → FieldsFit f → branch_in f.param ≡ Some c
     → Sendable f c
 branch_sendable f c bytes fits h =
     let test = chosen ((length f.param == 12) && nat_le (number_at 0 6 f.param) (number_at 6 6 f.param))
@@ -182,7 +182,7 @@ branch_sendable f c bytes fits h =
       in_order = leb-true _ _ both.1;
     })
 
-request_sendable : (f : Fields) (c : asked.Command) (class : ReqClass) → Fits f
+request_sendable : (f : Fields) (c : asked.Command) (class : ReqClass) → FieldsFit f
     → Some (asks.Request (request_in f class)) ≡ Some c → Sendable f c
 request_sendable f c class fits h =
     let is : asks.Request (request_in f class) ≡ c = cc in
@@ -208,7 +208,7 @@ request_sendable f c class fits h =
     code Get = omega arith
     code Set = omega arith
 
-discovery_sendable : (f : Fields) (c : asked.Command) → IsBytes f.param → Fits f → discovery_in f ≡ Some c
+discovery_sendable : (f : Fields) (c : asked.Command) → IsBytes f.param → FieldsFit f → discovery_in f ≡ Some c
     → Sendable f c
 discovery_sendable f c bytes fits h = elim (by_code f.pid 3 _ _ c h) [
   | inl unmute ↦ subst (Sendable f) (same unmute.1) (record {
@@ -240,7 +240,7 @@ discovery_sendable f c bytes fits h = elim (by_code f.pid 3 _ _ c h) [
           in_order = is;
         })
 
-sendable : (f : Fields) (c : asked.Command) → IsBytes f.param → Fits f → command_in f ≡ Some c → Sendable f c
+sendable : (f : Fields) (c : asked.Command) → IsBytes f.param → FieldsFit f → command_in f ≡ Some c → Sendable f c
 sendable f c bytes fits h = elim (by_code f.class 0x10 _ _ c h) [
   | inl discovery ↦ discovery_sendable f c bytes fits discovery.1
   | inr h ↦ elim (by_code f.class 0x20 _ _ c h) [

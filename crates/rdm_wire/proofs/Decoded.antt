@@ -4,7 +4,7 @@ use Rattle.std.proofs.Common.{Result, Ok, Err, refl, sym, ap, ◌∙◌, arith}
 use Rattle.std.specs.Prelude.{slice_index}
 use Rattle.std.proofs.lemmas.Bool.{eq-eqb, le-ltb}
 use Rattle.rdm_wire.specs.Bytes.{number_at, checksum}
-use Rattle.rdm_wire.specs.Packet.{Fields, Fits, packet}
+use Rattle.rdm_wire.specs.Packet.{Fields, FieldsFit, packet}
 use Rattle.rdm_wire.specs.Responses.{Reads, decoded, response_of, response_at, fields_of, class_of_code, ack_of_code}
 use Rattle.rdm_wire.specs.Responses.{code_of_class, code_of_ack}
 use Rattle.rdm_wire.specs.declared.response.Response.{Response}
@@ -57,7 +57,7 @@ decoded-form b has = chosen _ _ _ _ _ _ _
     both_false : (x y : Bool) → x ≡ false → y ≡ false → (x || y) ≡ false
     both_false x y p q = rw (p, q) refl
 
-response_back : (r : Response) (rest : List ℕ) → Fits (fields_of r)
+response_back : (r : Response) (rest : List ℕ) → FieldsFit (fields_of r)
     → response_at r.class r.ack (packet (fields_of r) ++ rest) ≡ r
 response_back r rest fits = ap (of_fields r) (fields_back (fields_of r) rest fits)
   where

@@ -5,7 +5,8 @@ use Rattle.std.specs.Prelude.{◌⊎◌, ◌==◌, MatchBool, filter}
 use Rattle.std.proofs.lemmas.Bool.{eqb-true, eq-eqb, cases_Bool, or_cases}
 use Rattle.rdm_wire.specs.Uid.{has, is_within}
 use Rattle.rdm_wire.specs.Honest.{Asked, Heard, Seen, LineState, HonestStep, HonestToStep, HonestTrace, HonestTo, Chain}
-use Rattle.rdm_wire.specs.Honest.{Counts, KeepsMuted, UnmuteMoves, due_in, lost_after, is_silent, is_acked, before_run}
+use Rattle.rdm_wire.specs.Honest.{LineCounts, KeepsMuted, UnmuteMoves, due_in, lost_after, is_silent, is_acked}
+use Rattle.rdm_wire.specs.Honest.{before_run}
 use Rattle.rdm_wire.specs.Honest.Asked.{Unmute, Branch, Mute, Other}
 use Rattle.rdm_wire.specs.Honest.Heard.{Silent}
 use Rattle.rdm_wire.specs.Noisy.{NoisyStep, NoisyToStep, NoisyTrace, NoisyTo}
@@ -56,11 +57,11 @@ pub record Below (OneStep : Rules) (u : ℕ) (t new : LineState) (a : Asked) (h 
 with_counts : LineState → ℕ → ℕ → ℕ → LineState
 with_counts new b m n = record { muted = new.muted; lost_branches = b; lost_mutes = m; unmutes = n }
 
-counted : (new : LineState) (b m n : ℕ) → b ≤ 4 → m ≤ 4 → Counts (with_counts new b m n) b m n
+counted : (new : LineState) (b m n : ℕ) → b ≤ 4 → m ≤ 4 → LineCounts (with_counts new b m n) b m n
 unfolding with_counts
 counted new b m n p q = record { branches = refl; mutes = refl; unmutes = refl; few_branches = p; few_mutes = q }
 
-is_below : (u : ℕ) (new : LineState) (b m n c d e : ℕ) → Counts new c d e → b ≤ c → m ≤ d → n ≡ e
+is_below : (u : ℕ) (new : LineState) (b m n c d e : ℕ) → LineCounts new c d e → b ≤ c → m ≤ d → n ≡ e
     → IsBelow u (with_counts new b m n) new
 unfolding with_counts
 is_below u new b m n c d e counts p q r = record {
@@ -75,7 +76,7 @@ is_below u new b m n c d e counts p q r = record {
 
 below_branch : (present : List ℕ) (u lo hi : ℕ) (s t new : LineState) (h : Heard) → has present u ≡ true → IsBelow u t s
     → ((v : ℕ) → KeepsMuted v s new)
-    → Counts new (lost_after (due_in present s.muted lo hi) h s.lost_branches) 0 0
+    → LineCounts new (lost_after (due_in present s.muted lo hi) h s.lost_branches) 0 0
     → Below (HonestToStep u) u t new (Branch lo hi) h
 unfolding with_counts
 below_branch present u lo hi s t new h here under keeps counts = record {
@@ -96,7 +97,7 @@ below_branch present u lo hi s t new h here under keeps counts = record {
     few_lost p q = omega arith
 
 below_unmute : (u : ℕ) (s t new : LineState) (h : Heard) → IsBelow u t s
-    → ((v : ℕ) → UnmuteMoves v s new) × Counts new 0 0 (s.unmutes + 1) → Below (HonestToStep u) u t new Unmute h
+    → ((v : ℕ) → UnmuteMoves v s new) × LineCounts new 0 0 (s.unmutes + 1) → Below (HonestToStep u) u t new Unmute h
 unfolding with_counts
 below_unmute u s t new h under step = record {
   state = with_counts new 0 0 (t.unmutes + 1);
@@ -112,7 +113,7 @@ below_unmute u s t new h under step = record {
 }
 
 below_other : (u : ℕ) (s t new : LineState) (h : Heard) → IsBelow u t s
-    → ((v : ℕ) → KeepsMuted v s new) × Counts new 0 0 0 → Below (HonestToStep u) u t new Other h
+    → ((v : ℕ) → KeepsMuted v s new) × LineCounts new 0 0 0 → Below (HonestToStep u) u t new Other h
 unfolding with_counts
 below_other u s t new h under step = record {
   state = with_counts new 0 0 0;
@@ -125,19 +126,19 @@ module _ (Lost : Heard → Type 0) where
   -- a mute of a device that may answer it
   abbrev Moves : ℕ → LineState → Heard → LineState → Type 0
   Moves u old heard new =
-      ((is_acked heard ≡ true) × (new.muted u ≡ true) × Counts new 0 0 0)
-      ⊎ (Lost heard × ((new.muted u ≡ true) ⊎ KeepsMuted u old new) × Counts new 0 (old.lost_mutes + 1) 0)
+      ((is_acked heard ≡ true) × (new.muted u ≡ true) × LineCounts new 0 0 0)
+      ⊎ (Lost heard × ((new.muted u ≡ true) ⊎ KeepsMuted u old new) × LineCounts new 0 (old.lost_mutes + 1) 0)
 
   -- a mute of a present device, or of another UID
   abbrev MovesOf : Bool → ℕ → LineState → Heard → LineState → Type 0
   MovesOf b u old heard new =
-      MatchBool b (Moves u old heard new) (Lost heard × KeepsMuted u old new × Counts new 0 0 0)
+      MatchBool b (Moves u old heard new) (Lost heard × KeepsMuted u old new × LineCounts new 0 0 0)
 
   -- the state below, and the step to it, by the rules for u alone
   abbrev MovesBelow : Bool → ℕ → LineState → LineState → Heard → Type 0
   MovesBelow b u t new h =
       (state : LineState) × IsBelow u state new
-      × MatchBool b (Moves u t h state) (KeepsMuted u t state × Counts state 0 0 0)
+      × MatchBool b (Moves u t h state) (KeepsMuted u t state × LineCounts state 0 0 0)
 
   below_own_mute : (u : ℕ) (s t new : LineState) (h : Heard) → IsBelow u t s → Moves u s h new
       → MovesBelow true u t new h
@@ -162,12 +163,12 @@ module _ (Lost : Heard → Type 0) where
   unfolding with_counts
   below_other_mute b u v s t new h keeps under moves = of_count (count b moves)
     where
-      count : (b : Bool) → MovesOf b v s h new → (m : ℕ) × Counts new 0 m 0
+      count : (b : Bool) → MovesOf b v s h new → (m : ℕ) × LineCounts new 0 m 0
       count true (inl acked) = (0, acked.2)
       count true (inr lost) = (s.lost_mutes + 1, lost.2)
       count false absent = (0, absent.2)
 
-      of_count : (m : ℕ) × Counts new 0 m 0 → MovesBelow false u t new h
+      of_count : (m : ℕ) × LineCounts new 0 m 0 → MovesBelow false u t new h
       of_count c = (
         with_counts new 0 0 0,
         is_below u new 0 0 0 0 c.0 0 c.1 (omega arith) (omega arith) refl,

@@ -7,7 +7,7 @@ use Rattle.std.proofs.Math.Bool.{or-true}
 use Rattle.std.proofs.lemmas.List.{length-replicate}
 use Rattle.std.proofs.lemmas.Bool.{eqb-true, eq-eqb, cases_Bool}
 use Rattle.rdm_wire.specs.Uid.{has, is_within, IsDeviceSet}
-use Rattle.rdm_wire.specs.Honest.{Asked, Heard, Seen, LineState, HonestStep, HonestTrace, Chain, Counts, KeepsMuted}
+use Rattle.rdm_wire.specs.Honest.{Asked, Heard, Seen, LineState, HonestStep, HonestTrace, Chain, LineCounts, KeepsMuted}
 use Rattle.rdm_wire.specs.Honest.{MuteMoves, UnmuteMoves, MayReply, lost_after, due_in, before_run}
 use Rattle.rdm_wire.specs.Honest.Asked.{Unmute, Branch, Mute, Other}
 use Rattle.rdm_wire.specs.Honest.Heard.{Silent}
@@ -23,7 +23,7 @@ module _ (p : List ℕ) where
     unmutes = s.unmutes;
   }
 
-  counts_within : (new : LineState) (b m n : ℕ) → Counts new b m n → Counts (within new) b m n
+  counts_within : (new : LineState) (b m n : ℕ) → LineCounts new b m n → LineCounts (within new) b m n
   counts_within new b m n c = record {
     branches = c.branches;
     mutes = c.mutes;
@@ -78,16 +78,16 @@ module _ (p : List ℕ) where
       let due = sym (due_within old lo hi) in (
         subst (λ d. MayReply d heard) due step.0,
         (λ u. keeps_within u old new (step.1 u)),
-        subst (λ d. Counts (within new) (lost_after d heard old.lost_branches) 0 0) due
+        subst (λ d. LineCounts (within new) (lost_after d heard old.lost_branches) 0 0) due
             (counts_within new _ 0 0 step.2),
       )
   step_within old new (Mute u) heard step =
       ((λ v other. keeps_within v old new (step.0 v other)), by_test (has p u) refl step.1)
     where
       by_test : (b : Bool) → has p u ≡ b
-          → MatchBool b (MuteMoves u old heard new) ((heard ≡ Silent) × KeepsMuted u old new × Counts new 0 0 0)
+          → MatchBool b (MuteMoves u old heard new) ((heard ≡ Silent) × KeepsMuted u old new × LineCounts new 0 0 0)
           → MatchBool b (MuteMoves u (within old) heard (within new))
-          ((heard ≡ Silent) × KeepsMuted u (within old) (within new) × Counts (within new) 0 0 0)
+          ((heard ≡ Silent) × KeepsMuted u (within old) (within new) × LineCounts (within new) 0 0 0)
       by_test true here moves = mute_within u old new heard here moves
       by_test false away silent = (silent.0, keeps_within u old new silent.1, counts_within new 0 0 0 silent.2)
   step_within old new Unmute heard step =
@@ -140,7 +140,7 @@ module _ (p : List ℕ) where
   still_outside old new (Mute v) heard out step u away = by_test (v == u) refl
     where
       absent : (b : Bool) → has p v ≡ b → b ≡ false
-          → MatchBool b (MuteMoves v old heard new) ((heard ≡ Silent) × KeepsMuted v old new × Counts new 0 0 0)
+          → MatchBool b (MuteMoves v old heard new) ((heard ≡ Silent) × KeepsMuted v old new × LineCounts new 0 0 0)
           → new.muted v ≡ old.muted v
       absent true is no' silent = absurd (true≢false no')
       absent false is no' silent = silent.1

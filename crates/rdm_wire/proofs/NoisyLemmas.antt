@@ -5,7 +5,7 @@ use Rattle.std.specs.Prelude.{◌⊎◌, ◌≢◌, ◌==◌, MatchBool, nat_le}
 use Rattle.std.proofs.lemmas.Bool.{eqb-true, eq-eqb, cases_Bool, and_parts, or_parts, leb-true}
 use Rattle.rdm_wire.specs.Uid.{has, is_within}
 use Rattle.rdm_wire.specs.Honest.{Asked, Heard, Seen, LineState, HonestStep, HonestToStep, HonestTrace, HonestTo, Chain}
-use Rattle.rdm_wire.specs.Honest.{Counts, KeepsMuted, MayReply, MuteMoves, due_in, is_acked, before_run}
+use Rattle.rdm_wire.specs.Honest.{LineCounts, KeepsMuted, MayReply, MuteMoves, due_in, is_acked, before_run}
 use Rattle.rdm_wire.specs.Honest.Asked.{Unmute, Branch, Mute, Other}
 use Rattle.rdm_wire.specs.Honest.Heard.{Failed, Silent, One, Acked, Noise}
 use Rattle.rdm_wire.specs.Noisy.{NoisyStep, NoisyToStep, NoisyTrace, NoisyTo, NoisyTraceWith, MayHearInNoise}
@@ -46,8 +46,8 @@ mute_in_noise u s new h (inl acked) = inl acked
 mute_in_noise u s new h (inr silent) = inr (silence_acks_nothing h silent.0, silent.1, silent.2)
 
 mute_by : (b : Bool) (u : ℕ) (s new : LineState) (h : Heard)
-    → MatchBool b (MuteMoves u s h new) ((h ≡ Silent) × KeepsMuted u s new × Counts new 0 0 0)
-    → MatchBool b (MuteMovesInNoise u s h new) ((is_acked h ≡ false) × KeepsMuted u s new × Counts new 0 0 0)
+    → MatchBool b (MuteMoves u s h new) ((h ≡ Silent) × KeepsMuted u s new × LineCounts new 0 0 0)
+    → MatchBool b (MuteMovesInNoise u s h new) ((is_acked h ≡ false) × KeepsMuted u s new × LineCounts new 0 0 0)
 mute_by true u s new h moves = mute_in_noise u s new h moves
 mute_by false u s new h silent = (silence_acks_nothing h silent.0, silent.1, silent.2)
 
@@ -60,8 +60,8 @@ step_in_noise present s Unmute h new step = step
 step_in_noise present s Other h new step = step
 
 to_mute_by : (b : Bool) (u : ℕ) (s new : LineState) (h : Heard)
-    → MatchBool b (MuteMoves u s h new) (KeepsMuted u s new × Counts new 0 0 0)
-    → MatchBool b (MuteMovesInNoise u s h new) (KeepsMuted u s new × Counts new 0 0 0)
+    → MatchBool b (MuteMoves u s h new) (KeepsMuted u s new × LineCounts new 0 0 0)
+    → MatchBool b (MuteMovesInNoise u s h new) (KeepsMuted u s new × LineCounts new 0 0 0)
 to_mute_by true u s new h moves = mute_in_noise u s new h moves
 to_mute_by false u s new h keeps = keeps
 
@@ -112,7 +112,7 @@ silent_undisturbed : (h : Heard) → h ≡ Silent → (has_bytes h && not (is_ac
 silent_undisturbed h silent = rw silent refl
 
 mute_undisturbed : (b : Bool) (u : ℕ) (s new : LineState) (h : Heard)
-    → MatchBool b (MuteMoves u s h new) ((h ≡ Silent) × KeepsMuted u s new × Counts new 0 0 0)
+    → MatchBool b (MuteMoves u s h new) ((h ≡ Silent) × KeepsMuted u s new × LineCounts new 0 0 0)
     → (has_bytes h && not (is_acked h)) ≡ false
 mute_undisturbed true u s new h (inl acked) = acked_undisturbed h acked.0
 mute_undisturbed true u s new h (inr silent) = silent_undisturbed h silent.0
@@ -167,8 +167,8 @@ silent_if_lost Noise ok quiet lost = absurd (true≢false quiet)
 
 honest_mute : (b : Bool) (u : ℕ) (s new : LineState) (h : Heard) → h ≢ Failed
     → (has_bytes h && not (is_acked h)) ≡ false
-    → MatchBool b (MuteMovesInNoise u s h new) ((is_acked h ≡ false) × KeepsMuted u s new × Counts new 0 0 0)
-    → MatchBool b (MuteMoves u s h new) ((h ≡ Silent) × KeepsMuted u s new × Counts new 0 0 0)
+    → MatchBool b (MuteMovesInNoise u s h new) ((is_acked h ≡ false) × KeepsMuted u s new × LineCounts new 0 0 0)
+    → MatchBool b (MuteMoves u s h new) ((h ≡ Silent) × KeepsMuted u s new × LineCounts new 0 0 0)
 honest_mute true u s new h ok quiet (inl acked) = inl acked
 honest_mute true u s new h ok quiet (inr lost) = inr (silent_if_lost h ok quiet lost.0, lost.1, lost.2)
 honest_mute false u s new h ok quiet absent = (silent_if_lost h ok quiet absent.0, absent.1, absent.2)

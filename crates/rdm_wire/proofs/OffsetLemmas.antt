@@ -24,11 +24,11 @@ pub record IsWrittenAt (at size : ℕ) (written : ℕ → List ℕ) (b : List �
   pub below : number_of (take size (drop at b)) < 256 ^ size
 
 -- so does a list begin
-record Begins (size : ℕ) (written : ℕ → List ℕ) (xs : List ℕ) : Type 0 where
+record IsWrittenFirst (size : ℕ) (written : ℕ → List ℕ) (xs : List ℕ) : Type 0 where
   bytes : xs ≡ written (number_of (take size xs)) ++ drop size xs
   below : number_of (take size xs) < 256 ^ size
 
-one_first : (xs : List ℕ) → IsBytes xs → 1 ≤ length xs → Begins 1 one_byte xs
+one_first : (xs : List ℕ) → IsBytes xs → 1 ≤ length xs → IsWrittenFirst 1 one_byte xs
 one_first (a ∷ rest) bytes long = record {
   bytes = same _ (omega arith);
   below = let byte : a < 256 = bytes 0 in omega arith;
@@ -38,18 +38,18 @@ one_first (a ∷ rest) bytes long = record {
     same n p = cc
 one_first xs bytes long = absurd (omega arith)
 
-two_of : (a b : ℕ) (rest : List ℕ) → a < 256 → b < 256 → Begins 2 two_bytes (a ∷ b ∷ rest)
+two_of : (a b : ℕ) (rest : List ℕ) → a < 256 → b < 256 → IsWrittenFirst 2 two_bytes (a ∷ b ∷ rest)
 two_of a b rest ha hb = record { bytes = same _ _ (omega arith) (omega arith); below = omega arith }
   where
     same : (x y : ℕ) → a ≡ x → b ≡ y → a ∷ b ∷ rest ≡ x ∷ y ∷ rest
     same x y p q = cc
 
-two_first : (xs : List ℕ) → IsBytes xs → 2 ≤ length xs → Begins 2 two_bytes xs
+two_first : (xs : List ℕ) → IsBytes xs → 2 ≤ length xs → IsWrittenFirst 2 two_bytes xs
 two_first (a ∷ b ∷ rest) bytes long = two_of a b rest (bytes 0) (bytes 1)
 two_first xs bytes long = absurd (omega arith)
 
 uid_of : (a b c d e f : ℕ) (rest : List ℕ) → a < 256 → b < 256 → c < 256 → d < 256 → e < 256 → f < 256
-    → Begins 6 uid_bytes (a ∷ b ∷ c ∷ d ∷ e ∷ f ∷ rest)
+    → IsWrittenFirst 6 uid_bytes (a ∷ b ∷ c ∷ d ∷ e ∷ f ∷ rest)
 uid_of a b c d e f rest ha hb hc hd he hf = record {
   bytes = same _ _ _ _ _ _ (omega arith) (omega arith) (omega arith) (omega arith) (omega arith) (omega arith);
   below = omega arith;
@@ -59,13 +59,13 @@ uid_of a b c d e f rest ha hb hc hd he hf = record {
         → a ∷ b ∷ c ∷ d ∷ e ∷ f ∷ rest ≡ u ∷ v ∷ w ∷ x ∷ y ∷ z ∷ rest
     same u v w x y z h1 h2 h3 h4 h5 h6 = cc
 
-uid_first : (xs : List ℕ) → IsBytes xs → 6 ≤ length xs → Begins 6 uid_bytes xs
+uid_first : (xs : List ℕ) → IsBytes xs → 6 ≤ length xs → IsWrittenFirst 6 uid_bytes xs
 uid_first (a ∷ b ∷ c ∷ d ∷ e ∷ f ∷ rest) bytes long =
     uid_of a b c d e f rest (bytes 0) (bytes 1) (bytes 2) (bytes 3) (bytes 4) (bytes 5)
 uid_first xs bytes long = absurd (omega arith)
 
 -- what stands first after an offset stands there
-at_offset : (at size : ℕ) (written : ℕ → List ℕ) (b : List ℕ) → Begins size written (drop at b)
+at_offset : (at size : ℕ) (written : ℕ → List ℕ) (b : List ℕ) → IsWrittenFirst size written (drop at b)
     → IsWrittenAt at size written b
 at_offset at size written b first = record {
   bytes = first.bytes ∙ ap (λ l. written (number_of (take size (drop at b))) ++ l) (drop-drop size at b);

@@ -4,7 +4,7 @@ use Rattle.std.proofs.Common.{append_assoc, append-nil, length-append, arith}
 use Rattle.std.specs.Prelude.{slice_range}
 use Rattle.std.proofs.Math.Seq.{drop-append_seam, take-append_seam}
 use Rattle.rdm_wire.specs.Bytes.{number_of, number_at, checksum, two_bytes}
-use Rattle.rdm_wire.specs.Packet.{Fields, Fits, fields_at, packet, body_of, header_of}
+use Rattle.rdm_wire.specs.Packet.{Fields, FieldsFit, fields_at, packet, body_of, header_of}
 use Rattle.rdm_wire.proofs.BytesLemmas.{number_of-two_bytes, number_of-uid_bytes}
 
 pub body_length : (f : Fields) → length (body_of f) ≡ 24 + length f.param
@@ -43,7 +43,7 @@ param_at f rest = counted (24 + length f.param - 24) (omega arith)
         rw h (ap (take (length f.param)) (append_assoc f.param (two_bytes (checksum (body_of f))) rest)
         ∙ take-append_seam f.param (two_bytes (checksum (body_of f)) ++ rest))
 
-pub fields_back : (f : Fields) (rest : List ℕ) → Fits f → fields_at (packet f ++ rest) ≡ f
+pub fields_back : (f : Fields) (rest : List ℕ) → FieldsFit f → fields_at (packet f ++ rest) ≡ f
 fields_back f rest fits = same _ _ _ _ _ _ _ _ _ (number_of-uid_bytes f.dest fits.dest)
     (number_of-uid_bytes f.source fits.source) (one_spell f.tn) (one_spell f.port_or_type) (one_spell f.count)
     (number_of-two_bytes f.sub_device fits.sub_device) (one_spell f.class) (number_of-two_bytes f.pid fits.pid)
@@ -77,9 +77,10 @@ long f rest =
     summed = omega arith
 
 -- a packet determines its fields
-pub fields_at-packet : (f : Fields) → Fits f → fields_at (packet f) ≡ f
+pub fields_at-packet : (f : Fields) → FieldsFit f → fields_at (packet f) ≡ f
 fields_at-packet f fits = ap fields_at (sym (append-nil (packet f))) ∙ fields_back f [] fits
 
 -- no packet begins with another
-pub one_packet : (f g : Fields) (rest more : List ℕ) → Fits f → Fits g → packet f ++ rest ≡ packet g ++ more → f ≡ g
+pub one_packet : (f g : Fields) (rest more : List ℕ) → FieldsFit f → FieldsFit g
+    → packet f ++ rest ≡ packet g ++ more → f ≡ g
 one_packet f g rest more fits also same = sym (fields_back f rest fits) ∙ ap fields_at same ∙ fields_back g more also

@@ -8,7 +8,7 @@ use Rattle.std.proofs.lemmas.List.{drop-drop, length-drop, take-append-drop, len
 use Rattle.std.proofs.Math.Seq.{take-append_seam}
 use Rattle.hex.specs.Hex.{IsBytes}
 use Rattle.rdm_wire.specs.Bytes.{number_of, number_at, checksum, two_bytes, uid_bytes}
-use Rattle.rdm_wire.specs.Packet.{Fields, Fits, fields_at, packet, body_of, header_of}
+use Rattle.rdm_wire.specs.Packet.{Fields, FieldsFit, fields_at, packet, body_of, header_of}
 use Rattle.rdm_wire.specs.Responses.{Reads, decoded, response_of, response_at, fields_of, class_of_code, ack_of_code}
 use Rattle.rdm_wire.specs.Responses.{code_of_class, code_of_ack}
 use Rattle.rdm_wire.specs.declared.response.Response.{Response}
@@ -143,7 +143,7 @@ joined b t1 t2 t3 t9 t15 t16 t17 t18 t20 t21 t23 t24 l dest source tn port_or_ty
 
 -- the fields at the offsets are in range, and the packet's header and data stand there
 pub record HasBody (b : List ℕ) : Type 0 where
-  pub fits : Fits (fields_at b)
+  pub fits : FieldsFit (fields_at b)
   pub size : length (fields_at b).param ≡ slice_index b 23
   pub body : b ≡ body_of (fields_at b) ++ drop (24 + slice_index b 23) b
 
@@ -225,7 +225,7 @@ fields_are b class ack long class_is ack_is =
 
 -- bytes that decode to a response begin with its packet
 pub read_back : (b : List ℕ) (r : Response) → IsBytes b → decoded b ≡ Ok r → Reads r b
-read_back b r bytes h = subst (λ (f : Fields). Fits f × (rest : List ℕ) × (b ≡ packet f ++ rest)) (sym fields)
+read_back b r bytes h = subst (λ (f : Fields). FieldsFit f × (rest : List ℕ) × (b ≡ packet f ++ rest)) (sym fields)
     (has.fits, drop (slice_index b 2 + 2) b, has_packet b (slice_index b 2) bytes has len d.form.all_there d.form.sum)
   where
     d : Decodes b r

@@ -3,7 +3,7 @@ use Rattle.std.proofs.Common.{◌≡◌, ◌≢◌, ℕ, Bool, true, false, ◌|
 use Rattle.std.proofs.Common.{arith}
 use Rattle.std.specs.Prelude.{◌==◌}
 use Rattle.rdm_wire.specs.Uid.{has, IsDeviceSet}
-use Rattle.rdm_wire.specs.Honest.{Seen, LineState, Counts, before_run}
+use Rattle.rdm_wire.specs.Honest.{Seen, LineState, LineCounts, before_run}
 use Rattle.rdm_wire.specs.Honest.Heard.{Failed, One, Noise}
 use Rattle.rdm_wire.specs.HonestOver.{HonestOver, ComeAndLeave}
 use Rattle.rdm_wire.specs.SampleLines.{first_device, one_there, two_there, asked_all}
@@ -21,7 +21,7 @@ two-devices = record {
 abbrev quiet : LineState
 quiet = before_run (λ u. false)
 
-quiet-counts : Counts quiet 0 0 0
+quiet-counts : LineCounts quiet 0 0 0
 quiet-counts = record {
   branches = refl;
   mutes = refl;

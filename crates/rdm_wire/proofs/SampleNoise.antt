@@ -3,7 +3,7 @@ use Rattle.std.proofs.Common.{◌≡◌, ℕ, ◌≤◌, Bool, true, false, not,
 use Rattle.std.proofs.Common.{true≢false, arith}
 use Rattle.std.specs.Prelude.{◌==◌, MatchBool}
 use Rattle.rdm_wire.specs.Uid.{has}
-use Rattle.rdm_wire.specs.Honest.{LineState, Counts, HonestTrace, KeepsMuted, MayReply, is_acked}
+use Rattle.rdm_wire.specs.Honest.{LineState, LineCounts, HonestTrace, KeepsMuted, MayReply, is_acked}
 use Rattle.rdm_wire.specs.Honest.{before_run}
 use Rattle.rdm_wire.specs.Honest.Heard.{Failed, One, Acked, Noise}
 use Rattle.rdm_wire.specs.Noisy.{NoisyTrace, NoisyTraceWith, MuteMovesInNoise}
@@ -22,7 +22,7 @@ one_muted u = first_device == u
 abbrev line : (ℕ → Bool) → ℕ → LineState
 line muted mutes = record { muted = muted; lost_branches = 0; lost_mutes = mutes; unmutes = 0 }
 
-counts : (muted : ℕ → Bool) (mutes : ℕ) → mutes ≤ 4 → Counts (line muted mutes) 0 mutes 0
+counts : (muted : ℕ → Bool) (mutes : ℕ) → mutes ≤ 4 → LineCounts (line muted mutes) 0 mutes 0
 counts muted mutes few = record {
   branches = refl;
   mutes = refl;
@@ -98,6 +98,6 @@ absent_unacked present u ack absent noisy =
         (Acked ack) new)
         ((is_acked (Acked ack) ≡ false)
         × KeepsMuted u (before_run muted) new
-        × Counts new 0 0 0) → ⊥
+        × LineCounts new 0 0 0) → ⊥
     by_test true is muted new moves = true≢false is
     by_test false is muted new lost = true≢false lost.0

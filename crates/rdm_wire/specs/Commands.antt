@@ -3,7 +3,7 @@ use Rattle.std.specs.Prelude.{◌≡◌, ℕ, true, ◌<◌, ◌≤◌, ◌^◌,
 use Rattle.std.specs.Prelude.{bytes_eq, if◌then◌else◌}
 use Rattle.rdm_wire.specs.Bytes.{number_at}
 use Rattle.rdm_wire.specs.Uid.{is_broadcast}
-use Rattle.rdm_wire.specs.Packet.{Fields, Fits, packet, fields_at}
+use Rattle.rdm_wire.specs.Packet.{Fields, FieldsFit, packet, fields_at}
 use Rattle.rdm_wire.specs.CommandFrames.{request_fields, unmute_fields, branch_fields, mute_fields}
 use Rattle.rdm_wire.specs.declared.request.Request.{Request}
 use Rattle.rdm_wire.specs.declared.request.ReqClass.{ReqClass}
@@ -31,7 +31,7 @@ HasUids other = Unit {0}
 
 -- each value of the command is in the range of its field
 pub record FitsFrame (command : Command) (s tn : ℕ) : Type 0 where
-  pub fits : Fits (command_fields command s tn)
+  pub fits : FieldsFit (command_fields command s tn)
   pub bounds : HasUids command
 
 -- what its encoder also requires: a branch's bounds aren't crossed, and a mute is to a device

@@ -51,7 +51,7 @@ abbrev pub KeepsMuted : ℕ → LineState → LineState → Type 0
 KeepsMuted u old new = new.muted u ≡ old.muted u
 
 -- new has these counts, and no more than four replies were lost in a row
-pub record Counts (new : LineState) (b m n : ℕ) : Type 0 where
+pub record LineCounts (new : LineState) (b m n : ℕ) : Type 0 where
   pub branches : new.lost_branches ≡ b
   pub mutes : new.lost_mutes ≡ m
   pub unmutes : new.unmutes ≡ n
@@ -72,8 +72,8 @@ lost_after (u ∷ us) heard before = if is_silent heard then before + 1 else 0
 -- a mute of u is acknowledged, and u is muted; or it is silent, and u is muted or as before
 abbrev pub MuteMoves : ℕ → LineState → Heard → LineState → Type 0
 MuteMoves u old heard new =
-    ((is_acked heard ≡ true) × (new.muted u ≡ true) × Counts new 0 0 0)
-    ⊎ ((heard ≡ Silent) × ((new.muted u ≡ true) ⊎ KeepsMuted u old new) × Counts new 0 (old.lost_mutes + 1) 0)
+    ((is_acked heard ≡ true) × (new.muted u ≡ true) × LineCounts new 0 0 0)
+    ⊎ ((heard ≡ Silent) × ((new.muted u ≡ true) ⊎ KeepsMuted u old new) × LineCounts new 0 (old.lost_mutes + 1) 0)
 
 -- an unmute doesn't mute u; the third in a row, and each after it, leaves it unmuted
 pub record UnmuteMoves (u : ℕ) (old new : LineState) : Type 0 where
@@ -85,24 +85,24 @@ abbrev pub HonestStep : List ℕ → LineState → Asked → Heard → LineState
 HonestStep present old (Branch lo hi) heard new =
     MayReply (due_in present old.muted lo hi) heard
     × ((u : ℕ) → KeepsMuted u old new)
-    × Counts new (lost_after (due_in present old.muted lo hi) heard old.lost_branches) 0 0
+    × LineCounts new (lost_after (due_in present old.muted lo hi) heard old.lost_branches) 0 0
 HonestStep present old (Mute u) heard new =
     ((v : ℕ) → (u == v) ≡ false → KeepsMuted v old new)
     × MatchBool (has present u)
     (MuteMoves u old heard new)
-    ((heard ≡ Silent) × KeepsMuted u old new × Counts new 0 0 0)
-HonestStep present old Unmute heard new = ((u : ℕ) → UnmuteMoves u old new) × Counts new 0 0 (old.unmutes + 1)
-HonestStep present old Other heard new = ((u : ℕ) → KeepsMuted u old new) × Counts new 0 0 0
+    ((heard ≡ Silent) × KeepsMuted u old new × LineCounts new 0 0 0)
+HonestStep present old Unmute heard new = ((u : ℕ) → UnmuteMoves u old new) × LineCounts new 0 0 (old.unmutes + 1)
+HonestStep present old Other heard new = ((u : ℕ) → KeepsMuted u old new) × LineCounts new 0 0 0
 
 -- a line on which only this device has to follow the rules, whatever the others do, may answer like this, and then be
 -- in the state new
 abbrev pub HonestToStep : ℕ → LineState → Asked → Heard → LineState → Type 0
 HonestToStep u old (Branch lo hi) heard new =
-    KeepsMuted u old new × Counts new (lost_after (due_in (u ∷ []) old.muted lo hi) heard old.lost_branches) 0 0
+    KeepsMuted u old new × LineCounts new (lost_after (due_in (u ∷ []) old.muted lo hi) heard old.lost_branches) 0 0
 HonestToStep u old (Mute v) heard new =
-    MatchBool (u == v) (MuteMoves u old heard new) (KeepsMuted u old new × Counts new 0 0 0)
-HonestToStep u old Unmute heard new = UnmuteMoves u old new × Counts new 0 0 (old.unmutes + 1)
-HonestToStep u old Other heard new = KeepsMuted u old new × Counts new 0 0 0
+    MatchBool (u == v) (MuteMoves u old heard new) (KeepsMuted u old new × LineCounts new 0 0 0)
+HonestToStep u old Unmute heard new = UnmuteMoves u old new × LineCounts new 0 0 (old.unmutes + 1)
+HonestToStep u old Other heard new = KeepsMuted u old new × LineCounts new 0 0 0
 
 -- consecutive steps from a state, up to the first failure, after which nothing is asked
 abbrev pub Chain : (LineState → Asked → Heard → LineState → Type 0) → LineState → List Seen → Type 0

@@ -3,8 +3,8 @@ use Rattle.std.specs.Prelude.{◌≡◌, ◌≢◌, ◌⊎◌, ℕ, ◌+◌, Boo
 use Rattle.std.specs.Prelude.{if◌then◌else◌, MatchBool}
 use mathlib.Core.Logic.{inl, inr}
 use Rattle.rdm_wire.specs.Uid.{has, IsDeviceSet}
-use Rattle.rdm_wire.specs.Honest.{Asked, Heard, Seen, LineState, KeepsMuted, Counts, HonestStep, HonestToStep, Chain}
-use Rattle.rdm_wire.specs.Honest.{due_in, lost_after, is_acked, before_run}
+use Rattle.rdm_wire.specs.Honest.{Asked, Heard, Seen, LineState, KeepsMuted, LineCounts, HonestStep, HonestToStep}
+use Rattle.rdm_wire.specs.Honest.{due_in, lost_after, is_acked, before_run, Chain}
 use Rattle.rdm_wire.specs.Honest.Asked.{Unmute, Branch, Mute, Other}
 use Rattle.rdm_wire.specs.Honest.Heard.{Failed, Silent, One}
 
@@ -16,8 +16,9 @@ MayHearInNoise present lo hi heard = lo ≡ hi → has present lo ≡ false → 
 -- a mute of u is acknowledged, and u is muted; or it isn't, whatever bytes come, and u is muted or as before
 abbrev pub MuteMovesInNoise : ℕ → LineState → Heard → LineState → Type 0
 MuteMovesInNoise u old heard new =
-    ((is_acked heard ≡ true) × (new.muted u ≡ true) × Counts new 0 0 0)
-    ⊎ ((is_acked heard ≡ false) × ((new.muted u ≡ true) ⊎ KeepsMuted u old new) × Counts new 0 (old.lost_mutes + 1) 0)
+    ((is_acked heard ≡ true) × (new.muted u ≡ true) × LineCounts new 0 0 0)
+    ⊎ ((is_acked heard ≡ false) × ((new.muted u ≡ true) ⊎ KeepsMuted u old new)
+    × LineCounts new 0 (old.lost_mutes + 1) 0)
 
 -- a noisy line with these devices may answer like this, and then be in the state new. A mute of an absent UID may bring
 -- any bytes but its acknowledgement. Lost replies are counted as on an honest line; so are mutes of devices that aren't
@@ -26,12 +27,12 @@ abbrev pub NoisyStep : List ℕ → LineState → Asked → Heard → LineState 
 NoisyStep present old (Branch lo hi) heard new =
     MayHearInNoise present lo hi heard
     × ((u : ℕ) → KeepsMuted u old new)
-    × Counts new (lost_after (due_in present old.muted lo hi) heard old.lost_branches) 0 0
+    × LineCounts new (lost_after (due_in present old.muted lo hi) heard old.lost_branches) 0 0
 NoisyStep present old (Mute u) heard new =
     ((v : ℕ) → (u == v) ≡ false → KeepsMuted v old new)
     × MatchBool (has present u)
     (MuteMovesInNoise u old heard new)
-    ((is_acked heard ≡ false) × KeepsMuted u old new × Counts new 0 0 0)
+    ((is_acked heard ≡ false) × KeepsMuted u old new × LineCounts new 0 0 0)
 NoisyStep present old Unmute heard new = HonestStep present old Unmute heard new
 NoisyStep present old Other heard new = HonestStep present old Other heard new
 
@@ -39,7 +40,7 @@ NoisyStep present old Other heard new = HonestStep present old Other heard new
 -- then be in the state new
 abbrev pub NoisyToStep : ℕ → LineState → Asked → Heard → LineState → Type 0
 NoisyToStep u old (Mute v) heard new =
-    MatchBool (u == v) (MuteMovesInNoise u old heard new) (KeepsMuted u old new × Counts new 0 0 0)
+    MatchBool (u == v) (MuteMovesInNoise u old heard new) (KeepsMuted u old new × LineCounts new 0 0 0)
 NoisyToStep u old (Branch lo hi) heard new = HonestToStep u old (Branch lo hi) heard new
 NoisyToStep u old Unmute heard new = HonestToStep u old Unmute heard new
 NoisyToStep u old Other heard new = HonestToStep u old Other heard new

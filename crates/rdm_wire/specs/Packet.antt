@@ -15,7 +15,7 @@ pub record Fields : Type 0 where
   pub param : List ℕ
 
 -- each field is in the range of its bytes, and the data have at most 231 bytes (E1.20, packet format)
-pub record Fits (f : Fields) : Type 0 where
+pub record FieldsFit (f : Fields) : Type 0 where
   pub dest : f.dest < 2 ^ 48
   pub source : f.source < 2 ^ 48
   pub tn : f.tn < 2 ^ 8
@@ -42,7 +42,7 @@ packet f = body_of f ++ two_bytes (checksum (body_of f))
 
 -- b is the packet with the fields f, which are in their ranges
 abbrev pub Packet : Fields → List ℕ → Type 0
-Packet f b = Fits f × (b ≡ packet f)
+Packet f b = FieldsFit f × (b ≡ packet f)
 
 -- the fields at the offsets of the packet (E1.20, packet format)
 abbrev pub fields_at : List ℕ → Fields

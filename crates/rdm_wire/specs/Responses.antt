@@ -2,7 +2,7 @@
 use Rattle.std.specs.Prelude.{◌≡◌, ℕ, ◌+◌, ◌-◌, ◌||◌, not, List, ◌++◌, length, take, Option, Some, None, Result, Ok}
 use Rattle.std.specs.Prelude.{Err, slice_index, ◌==◌, nat_lt, if◌then◌else◌}
 use Rattle.rdm_wire.specs.Bytes.{number_at, checksum}
-use Rattle.rdm_wire.specs.Packet.{Fields, Fits, packet, fields_at}
+use Rattle.rdm_wire.specs.Packet.{Fields, FieldsFit, packet, fields_at}
 use Rattle.rdm_wire.specs.declared.response.Response.{Response}
 use Rattle.rdm_wire.specs.declared.response.RespClass.{RespClass}
 use Rattle.rdm_wire.specs.declared.response.RespClass.TheVariants as responses
@@ -42,7 +42,7 @@ fields_of r = record {
 
 -- b begins with the packet of the response r
 abbrev pub Reads : Response → List ℕ → Type 0
-Reads r b = Fits (fields_of r) × (rest : List ℕ) × (b ≡ packet (fields_of r) ++ rest)
+Reads r b = FieldsFit (fields_of r) × (rest : List ℕ) × (b ≡ packet (fields_of r) ++ rest)
 
 -- the class with this code, if it is a response's
 abbrev pub class_of_code : ℕ → Option RespClass

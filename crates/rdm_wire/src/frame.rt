@@ -1,7 +1,7 @@
 //! The bytes of a packet: the table of its fields, read and written.
 ghost use Rattle.std.specs.Prelude.{◌≡◌, ◌≤◌, ◌+◌, ℕ, List, length};
 ghost use Rattle.rdm_wire.specs.Bytes.{number_at};
-ghost use Rattle.rdm_wire.specs.Packet.{Packet, Fits, fields_at, header_of};
+ghost use Rattle.rdm_wire.specs.Packet.{Packet, FieldsFit, fields_at, header_of};
 ghost use Rattle.rdm_wire.specs.body.Header.{header_fields};
 
 use crate::checksum::checksum;
@@ -155,7 +155,7 @@ impl Header {
     fn to_bytes(self, pdl: u8) -> [u8; HEADER_LENGTH]
         requires { pdl ≤ MOST_PARAMETER_BYTES }
         ensures bytes { (param : List ℕ) → length param ≡ pdl → result ≡ header_of (header_fields self param) }
-        ensures in_range { (param : List ℕ) → length param ≡ pdl → Fits (header_fields self param) }
+        ensures in_range { (param : List ℕ) → length param ≡ pdl → FieldsFit (header_fields self param) }
     {
         let [d0, d1, d2, d3, d4, d5] = self.dest.to_bytes();
         let [s0, s1, s2, s3, s4, s5] = self.source.to_bytes();

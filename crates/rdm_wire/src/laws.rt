@@ -16,7 +16,7 @@ ghost use Rattle.rdm_wire.specs.Honest.Heard.{Failed, One, Acked, Noise};
 ghost use Rattle.rdm_wire.specs.SampleLines.{first_device, one_there, two_there, asked_all};
 ghost use Rattle.rdm_wire.specs.SampleLines.{asked_mute, asked_alone, noisy_exchanges};
 ghost use Rattle.rdm_wire.specs.Honest.Asked.{Unmute, Branch, Mute, Other};
-ghost use Rattle.rdm_wire.specs.Packet.{Fields, Fits, fields_at, packet};
+ghost use Rattle.rdm_wire.specs.Packet.{Fields, FieldsFit, fields_at, packet};
 ghost use Rattle.rdm_wire.specs.CommandFrames.{unmute_frame, branch_frame, mute_frame};
 ghost use Rattle.rdm_wire.specs.Responses.{Reads, decoded};
 ghost use Rattle.rdm_wire.specs.MuteAcks.{MuteAcked, ack_data};
@@ -54,8 +54,8 @@ pub fn responses_decode()
 
 /// A packet determines its fields, which are at the table's offsets; no packet begins with another.
 pub fn packets_determine_fields()
-    ensures fields { (f : Fields) → Fits f → fields_at (packet f) ≡ f }
-    ensures one { (f g : Fields) (rest more : List ℕ) → Fits f → Fits g
+    ensures fields { (f : Fields) → FieldsFit f → fields_at (packet f) ≡ f }
+    ensures one { (f g : Fields) (rest more : List ℕ) → FieldsFit f → FieldsFit g
         → packet f ++ rest ≡ packet g ++ more → f ≡ g }
 {}
 

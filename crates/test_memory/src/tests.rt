@@ -10,14 +10,14 @@ use rdm_wire::NoMemory;
 use std::alloc::Global;
 use std::process::Abort;
 use std::sync::Wait;
+use test_rig::ActResult::*;
 use test_rig::Ending::Faultless;
 use test_rig::Found::{First, Nobody};
-use test_rig::Heard::*;
 use test_rig::Stop::{AllLeft, Turns};
 use test_rig::{
-    Act, AskNote, Driver, Heard, LONG, LineOf, Meeting, Move, Note, Refusal, Said, SessionStage,
-    Stage, Step, TimedDevice, Who, Wrong, cancels, completion_told, config, controller, device_of,
-    found_in, get, is_blank, line_of, log, open_session, request, session_of, silent,
+    Act, ActResult, AskNote, Driver, LONG, LineOf, MakesActs, Meeting, Move, Note, Refusal, Said,
+    SessionStage, Step, TimedDevice, Who, Wrong, cancels, completion_told, config, controller,
+    device_of, found_in, get, is_blank, line_of, log, open_session, request, session_of, silent,
 };
 use test_stage::{
     Failed, LanesOver, NotServed, Part, Play, Player, PlayersOver, PortOver, PortSetup, Setup,

@@ -1,5 +1,5 @@
 //! What the clients of a queue, its operator and its worker do, one act after another.
-use crate::heard::Heard;
+use crate::act_result::ActResult;
 use crate::wrong::Wrong;
 use rdm_agent::Kind;
 use std::alloc::Global;
@@ -45,18 +45,18 @@ pub enum Act {
 }
 
 /// An act and its expected result.
-pub type Move = (Act, Heard);
+pub type Move = (Act, ActResult);
 
-/// Where acts are done. For an act that a stage doesn't support, the result is [`Heard::Nothing`].
-pub trait Stage {
+/// Where acts are done. For an act that a stage doesn't support, the result is [`ActResult::Nothing`].
+pub trait MakesActs {
     /// Does this, and returns its result.
-    fn act(&mut self, alloc: Global, act: Act) -> Heard;
+    fn act(&mut self, alloc: Global, act: Act) -> ActResult;
 }
 
 /// Who drives a stage.
 pub trait Driver {
     /// Does acts there.
-    fn drive<S: Stage>(&mut self, alloc: Global, stage: &mut S);
+    fn drive<S: MakesActs>(&mut self, alloc: Global, stage: &mut S);
 }
 
 /// A driver that makes these moves.
@@ -78,13 +78,13 @@ impl<'a> Mover<'a> {
 }
 
 impl Driver for Mover<'_> {
-    fn drive<S: Stage>(&mut self, alloc: Global, stage: &mut S) {
+    fn drive<S: MakesActs>(&mut self, alloc: Global, stage: &mut S) {
         self.made = moved(alloc, stage, self.moves);
     }
 }
 
 /// Makes these moves. Err: the first one with another result than expected.
-pub fn moved<S: Stage>(alloc: Global, stage: &mut S, moves: &[Move]) -> Result<(), Wrong> {
+pub fn moved<S: MakesActs>(alloc: Global, stage: &mut S, moves: &[Move]) -> Result<(), Wrong> {
     for (number, (act, wanted)) in moves.iter().enumerate() {
         let came = stage.act(alloc, *act);
         if came != *wanted {

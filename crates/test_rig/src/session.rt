@@ -2,9 +2,9 @@
 ghost use Rattle.std.specs.Prelude.{◌≡◌, []};
 ghost use Rattle.rdm_log.specs.log.Config.{IsConfig};
 
-use crate::act::{Act, Stage, Step};
+use crate::act::{Act, MakesActs, Step};
+use crate::act_result::{ActResult, Stop, outcome_told};
 use crate::found::found_in;
-use crate::heard::{Heard, Stop, outcome_told};
 use crate::refusal::Refusal;
 use crate::setup::{config_with, is_blank, log, request};
 use crate::state::{State, state_of};
@@ -71,55 +71,55 @@ impl<X: Drop> SessionStage<X> {
         state_of(&self.session)
     }
 
-    fn join(&mut self, alloc: Global, places: u8) -> Heard {
+    fn join(&mut self, alloc: Global, places: u8) -> ActResult {
         match self.session.join_client(alloc, places) {
-            Ok(client) => Heard::Number(u64::from(client.0)),
-            Err(fault) => Heard::Refused(Refusal::Join(fault)),
+            Ok(client) => ActResult::Number(u64::from(client.0)),
+            Err(fault) => ActResult::Refused(Refusal::Join(fault)),
         }
     }
 
-    fn client(&mut self, client: u8, step: Step) -> Heard {
+    fn client(&mut self, client: u8, step: Step) -> ActResult {
         match step {
             Step::Submit(tag) => self.submit(client, tag),
             Step::Discover(kind, tag) => self.discover(client, kind, tag),
             Step::Collect => self.collect(client),
             Step::Look | Step::Know => sees(&self.session),
-            Step::Leave => Heard::Nothing,
+            Step::Leave => ActResult::Nothing,
         }
     }
 
-    fn submit(&mut self, client: u8, tag: u64) -> Heard {
+    fn submit(&mut self, client: u8, tag: u64) -> ActResult {
         match self.session.submit(ClientId(client), request(tag)) {
-            Ok(number) => Heard::Number(number),
+            Ok(number) => ActResult::Number(number),
             Err((fault, back)) if back == request(tag) => {
-                Heard::Refused(Refusal::Submit(fault, tag))
+                ActResult::Refused(Refusal::Submit(fault, tag))
             }
-            Err(_) => Heard::Mixed,
+            Err(_) => ActResult::Mixed,
         }
     }
 
-    fn discover(&mut self, client: u8, kind: Kind, tag: u64) -> Heard {
+    fn discover(&mut self, client: u8, kind: Kind, tag: u64) -> ActResult {
         match self.session.discover(ClientId(client), kind) {
-            Ok(number) => Heard::Number(number),
-            Err(fault) => Heard::Refused(Refusal::Ask(fault, tag)),
+            Ok(number) => ActResult::Number(number),
+            Err(fault) => ActResult::Refused(Refusal::Ask(fault, tag)),
         }
     }
 
     #[inline(never)]
-    fn collect(&mut self, client: u8) -> Heard {
+    fn collect(&mut self, client: u8) -> ActResult {
         outcome_told(&self.session.next_outcome(ClientId(client)))
     }
 
     // Takes the next frame. If there is none, a frame that was taken before is kept.
-    fn take(&mut self) -> Heard {
+    fn take(&mut self) -> ActResult {
         match self.session.take() {
             Ok(Some(frame)) => {
                 let number = frame.get(15).copied();
                 self.awaited = Some(frame);
-                number.map_or(Heard::Mixed, Heard::Frame)
+                number.map_or(ActResult::Mixed, ActResult::Frame)
             }
-            Ok(None) => Heard::Nothing,
-            Err(LogFull) => Heard::Refused(Refusal::LogFull),
+            Ok(None) => ActResult::Nothing,
+            Err(LogFull) => ActResult::Refused(Refusal::LogFull),
         }
     }
 }
@@ -127,7 +127,7 @@ impl<X: Drop> SessionStage<X> {
 impl<X: Line + Drop> SessionStage<X> {
     // Makes the exchange of the frame that was taken last, and delivers what came. If there is no such frame, the
     // session has to refuse the delivery.
-    fn deliver(&mut self, alloc: Global) -> Heard {
+    fn deliver(&mut self, alloc: Global) -> ActResult {
         let Some(frame) = self.awaited.take() else {
             return self.delivers_nothing(alloc);
         };
@@ -135,34 +135,34 @@ impl<X: Line + Drop> SessionStage<X> {
             .session
             .deliver(alloc, self.line.exchange(&frame).into())
         {
-            Ok(()) => Heard::Done,
-            Err(_) => Heard::Mixed,
+            Ok(()) => ActResult::Done,
+            Err(_) => ActResult::Mixed,
         }
     }
 
-    fn delivers_nothing(&mut self, alloc: Global) -> Heard {
+    fn delivers_nothing(&mut self, alloc: Global) -> ActResult {
         match self.session.deliver(alloc, LineEvent::Failed) {
-            Err((NotAsked, LineEvent::Failed)) => Heard::Nothing,
-            _ => Heard::Mixed,
+            Err((NotAsked, LineEvent::Failed)) => ActResult::Nothing,
+            _ => ActResult::Mixed,
         }
     }
 
     // Makes this many exchanges at most.
-    fn work(&mut self, alloc: Global, turns: u64) -> Heard {
+    fn work(&mut self, alloc: Global, turns: u64) -> ActResult {
         for _turn in 0..turns {
             match self.take() {
-                Heard::Frame(_) if self.deliver(alloc) == Heard::Done => {}
-                Heard::Frame(_) => return Heard::Mixed,
-                Heard::Refused(_) => return Heard::Worked(Stop::LogFull),
-                _ => return Heard::Worked(Stop::AllLeft),
+                ActResult::Frame(_) if self.deliver(alloc) == ActResult::Done => {}
+                ActResult::Frame(_) => return ActResult::Mixed,
+                ActResult::Refused(_) => return ActResult::Worked(Stop::LogFull),
+                _ => return ActResult::Worked(Stop::AllLeft),
             }
         }
-        Heard::Worked(Stop::Turns)
+        ActResult::Worked(Stop::Turns)
     }
 }
 
-impl<X: Line + Drop> Stage for SessionStage<X> {
-    fn act(&mut self, alloc: Global, act: Act) -> Heard {
+impl<X: Line + Drop> MakesActs for SessionStage<X> {
+    fn act(&mut self, alloc: Global, act: Act) -> ActResult {
         match act {
             Act::Join(places) => self.join(alloc, places),
             Act::Client(client, step) => self.client(client, step),
@@ -170,25 +170,25 @@ impl<X: Line + Drop> Stage for SessionStage<X> {
             Act::Resume => switched(self.session.resume()),
             Act::Close => {
                 self.session.close();
-                Heard::Done
+                ActResult::Done
             }
             Act::Work(turns) => self.work(alloc, turns),
             Act::Take => self.take(),
             Act::Deliver => self.deliver(alloc),
-            Act::Retire => Heard::Nothing,
+            Act::Retire => ActResult::Nothing,
         }
     }
 }
 
 // The devices that the session knows.
-fn sees(session: &Session) -> Heard {
-    Heard::Sees(session.devices_run(), found_in(session.devices()))
+fn sees(session: &Session) -> ActResult {
+    ActResult::Sees(session.devices_run(), found_in(session.devices()))
 }
 
 /// The result of a pause or a resume.
-pub fn switched(made: Result<(), LogFull>) -> Heard {
+pub fn switched(made: Result<(), LogFull>) -> ActResult {
     match made {
-        Ok(()) => Heard::Done,
-        Err(LogFull) => Heard::Refused(Refusal::LogFull),
+        Ok(()) => ActResult::Done,
+        Err(LogFull) => ActResult::Refused(Refusal::LogFull),
     }
 }

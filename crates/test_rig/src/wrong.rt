@@ -1,5 +1,5 @@
 //! Errors of rigs.
-use crate::heard::Heard;
+use crate::act_result::ActResult;
 use crate::said::Said;
 use thiserror::Error;
 
@@ -17,7 +17,7 @@ pub enum Wrong {
     Device,
     /// The move with this number had this result.
     #[error("a move had another result")]
-    Move(usize, Heard),
+    Move(usize, ActResult),
     /// The log has this entry with this number; None: it ends before.
     #[error("the log has another entry")]
     Entry(usize, Option<Said>),

@@ -1,7 +1,7 @@
 //! Why a play failed, or what differed from what was expected.
 use rdm_lanes::OpenFault;
 use rdm_locked::FinishFault;
-use test_rig::{Heard, Stop, Wrong};
+use test_rig::{ActResult, Stop, Wrong};
 use thiserror::Error;
 
 /// Why a play failed, or what differed from what was expected.
@@ -30,7 +30,7 @@ pub enum Failed {
     Stop(Stop),
     /// The player with this number got this result for the script's line with this number.
     #[error("a player got another result")]
-    Heard(usize, usize, Heard),
+    ActResult(usize, usize, ActResult),
     /// There aren't as many players as clients, or one hasn't run once.
     #[error("a client's player didn't run once")]
     Players,

@@ -22,8 +22,8 @@ use std::alloc::Global;
 use std::marker::Brand;
 use std::sync::Wait;
 use test_rig::{
-    Act, AskNote, Driver, Heard, Move, Mover, Note, Refusal, Said, Stage, State, Step, Wrong,
-    cancels, config, found_in, is_blank, log, log_of, moved, request, state_of, told,
+    Act, ActResult, AskNote, Driver, MakesActs, Move, Mover, Note, Refusal, Said, State, Step,
+    Wrong, cancels, config, found_in, is_blank, log, log_of, moved, request, state_of, told,
 };
 
 type Client<J> = RingClient<J, Note, AskNote>;
@@ -118,7 +118,7 @@ pub(crate) fn opened<'a, J: ViewHistory, R: Wait, X: Drop>(
 
 /// Makes a client's step.
 #[inline(never)]
-pub(crate) fn makes<J: ViewHistory>(client: &mut Client<J>, step: Step) -> Heard
+pub(crate) fn makes<J: ViewHistory>(client: &mut Client<J>, step: Step) -> ActResult
     ensures { SameClient client.old client.new }
 {
     match step {
@@ -131,22 +131,24 @@ pub(crate) fn makes<J: ViewHistory>(client: &mut Client<J>, step: Step) -> Heard
     }
 }
 
-fn submits<J: ViewHistory>(client: &mut Client<J>, tag: u64) -> Heard
+fn submits<J: ViewHistory>(client: &mut Client<J>, tag: u64) -> ActResult
     ensures { SameClient client.old client.new }
 {
     match client.submit(request(tag), Note(tag)) {
-        Ok(()) => Heard::Done,
-        Err((fault, back, note)) if back == request(tag) => Heard::Refused(refused(fault, note.0)),
-        Err(_) => Heard::Mixed,
+        Ok(()) => ActResult::Done,
+        Err((fault, back, note)) if back == request(tag) => ActResult::Refused(refused(
+            fault, note.0,
+        )),
+        Err(_) => ActResult::Mixed,
     }
 }
 
-fn discovers<J: ViewHistory>(client: &mut Client<J>, kind: Kind, tag: u64) -> Heard
+fn discovers<J: ViewHistory>(client: &mut Client<J>, kind: Kind, tag: u64) -> ActResult
     ensures { SameClient client.old client.new }
 {
     match client.discover(kind, AskNote(tag)) {
-        Ok(()) => Heard::Done,
-        Err((fault, note)) => Heard::Refused(refused(fault, note.0)),
+        Ok(()) => ActResult::Done,
+        Err((fault, note)) => ActResult::Refused(refused(fault, note.0)),
     }
 }
 
@@ -160,47 +162,47 @@ fn refused(fault: RingFault, tag: u64) -> Refusal {
 }
 
 #[inline(never)]
-fn collects<J: ViewHistory>(client: &mut Client<J>) -> Heard
+fn collects<J: ViewHistory>(client: &mut Client<J>) -> ActResult
     ensures { SameClient client.old client.new }
 {
     told(&client.collect())
 }
 
-fn looks<J: ViewHistory>(client: &mut Client<J>) -> Heard
+fn looks<J: ViewHistory>(client: &mut Client<J>) -> ActResult
     ensures { SameClient client.old client.new }
 {
     let view = client.devices();
-    Heard::Sees(view.run, found_in(&view.set))
+    ActResult::Sees(view.run, found_in(&view.set))
 }
 
-fn knows<J: ViewHistory>(client: &Client<J>) -> Heard {
+fn knows<J: ViewHistory>(client: &Client<J>) -> ActResult {
     let view = client.known_devices();
-    Heard::Sees(view.run, found_in(&view.set))
+    ActResult::Sees(view.run, found_in(&view.set))
 }
 
 // The result of a call that is refused only if the ring has no free slot.
-fn sent(made: Result<(), RingFull>) -> Heard {
+fn sent(made: Result<(), RingFull>) -> ActResult {
     match made {
-        Ok(()) => Heard::Done,
-        Err(RingFull) => Heard::Refused(Refusal::NoSlot),
+        Ok(()) => ActResult::Done,
+        Err(RingFull) => ActResult::Refused(Refusal::NoSlot),
     }
 }
 
 impl<J: ViewHistory, R: Wait + Drop, X: Line> LanesStage<J, Shown<J>, R, X> {
-    fn client(&mut self, at: usize, step: Step) -> Heard {
+    fn client(&mut self, at: usize, step: Step) -> ActResult {
         if at >= self.clients.len() {
-            return Heard::Nothing;
+            return ActResult::Nothing;
         }
         makes(&mut self.clients[at], step)
     }
 
-    fn work(&mut self, alloc: Global, turns: u64) -> Heard {
-        Heard::Worked(stop_of(self.worker.work(alloc, &mut self.line, turns)))
+    fn work(&mut self, alloc: Global, turns: u64) -> ActResult {
+        ActResult::Worked(stop_of(self.worker.work(alloc, &mut self.line, turns)))
     }
 }
 
-impl<J: ViewHistory, R: Wait + Drop, X: Line> Stage for LanesStage<J, Shown<J>, R, X> {
-    fn act(&mut self, alloc: Global, act: Act) -> Heard {
+impl<J: ViewHistory, R: Wait + Drop, X: Line> MakesActs for LanesStage<J, Shown<J>, R, X> {
+    fn act(&mut self, alloc: Global, act: Act) -> ActResult {
         match act {
             Act::Client(at, step) => self.client(usize::from(at), step),
             Act::Pause => sent(self.operator.pause()),
@@ -208,7 +210,7 @@ impl<J: ViewHistory, R: Wait + Drop, X: Line> Stage for LanesStage<J, Shown<J>, 
             Act::Close => sent(self.operator.close()),
             Act::Retire => sent(self.operator.leave()),
             Act::Work(turns) => self.work(alloc, turns),
-            Act::Join(_) | Act::Take | Act::Deliver => Heard::Nothing,
+            Act::Join(_) | Act::Take | Act::Deliver => ActResult::Nothing,
         }
     }
 }
@@ -413,7 +415,7 @@ pub fn read_alone<X: Line + Drop, R: Wait>(
     setup: Setup,
     line: X,
     moves: &[Move],
-) -> Result<Heard, Failed> {
+) -> Result<ActResult, Failed> {
     reads_alone::<Brand, X, R>(rt, alloc, BlankHistory::new(), setup, line, moves)
 }
 
@@ -424,7 +426,7 @@ fn reads_alone<J: ViewHistory, X: Line + Drop, R: Wait>(
     setup: Setup,
     line: X,
     moves: &[Move],
-) -> Result<Heard, Failed>
+) -> Result<ActResult, Failed>
     requires { book_of history ≡ J.book }
 {
     let log = log(alloc, setup.free)?;
@@ -439,9 +441,9 @@ fn reads_alone<J: ViewHistory, X: Line + Drop, R: Wait>(
 }
 
 // Lets the clients read, the first one last, and ends them. Returns what the first one sees.
-fn seen_last<J: ViewHistory>(alloc: Global, clients: Vec<Client<J>>) -> Heard {
+fn seen_last<J: ViewHistory>(alloc: Global, clients: Vec<Client<J>>) -> ActResult {
     let mut clients = clients;
-    let mut seen = Heard::Nothing;
+    let mut seen = ActResult::Nothing;
     while let Some(mut client) = clients.pop() {
         seen = looks(&mut client);
         cancels(alloc, client.end().into_unspent());

@@ -6,7 +6,7 @@ use rdm_lanes::views::ViewHistory;
 use rdm_lanes::{Body, Gate, RingClient, WORKER_STOPPED};
 use std::sync::atomic::{AtomicU64, Ordering};
 use std::thread;
-use test_rig::{AskNote, Heard, Note, Refusal, Step};
+use test_rig::{ActResult, AskNote, Note, Refusal, Step};
 
 /// How often a player tries before it gives up.
 pub const TRIES: u64 = 100_000_000;
@@ -87,7 +87,7 @@ pub enum Play {
 }
 
 /// A script, and the results of its lines except arrivals.
-pub type Part<'a> = (&'static [Play], &'a [Heard]);
+pub type Part<'a> = (&'static [Play], &'a [ActResult]);
 
 /// A client that follows its script.
 #[derive(Clone, Copy)]
@@ -99,7 +99,7 @@ pub struct Player {
     /// How often it ran.
     pub runs: u64,
     /// The results of the script's lines except arrivals, in order; only the first ones if there are more than fit.
-    pub heard: [Heard; MOST_NOTED],
+    pub heard: [ActResult; MOST_NOTED],
 }
 
 impl Player {
@@ -109,7 +109,7 @@ impl Player {
             script,
             tries: TRIES,
             runs: 0,
-            heard: [Heard::Nothing; MOST_NOTED],
+            heard: [ActResult::Nothing; MOST_NOTED],
         }
     }
 }
@@ -131,7 +131,7 @@ fn plays<J: ViewHistory, G: Gate>(
     gate: &G,
     script: &[Play],
     tries: u64,
-    heard: &mut [Heard],
+    heard: &mut [ActResult],
 )
     ensures { SameClient client.old client.new }
 {
@@ -153,7 +153,7 @@ fn does<J: ViewHistory, G: Gate>(
     gate: &G,
     play: Play,
     tries: u64,
-) -> Option<Heard>
+) -> Option<ActResult>
     ensures { SameClient client.old client.new }
 {
     match play {
@@ -161,16 +161,20 @@ fn does<J: ViewHistory, G: Gate>(
             gate.arrive(point);
             None
         }
-        Play::Wait(point) if waits(gate, point, tries) => Some(Heard::Done),
-        Play::Look(point) if gate.passed(point) => Some(Heard::Done),
-        Play::Wait(_) | Play::Look(_) => Some(Heard::Nothing),
+        Play::Wait(point) if waits(gate, point, tries) => Some(ActResult::Done),
+        Play::Look(point) if gate.passed(point) => Some(ActResult::Done),
+        Play::Wait(_) | Play::Look(_) => Some(ActResult::Nothing),
         Play::Do(step) => Some(sends(client, step, tries)),
         Play::Hear => Some(awaits(client, tries)),
     }
 }
 
 // Makes a step once its ring has a slot.
-fn sends<J: ViewHistory>(client: &mut RingClient<J, Note, AskNote>, step: Step, tries: u64) -> Heard
+fn sends<J: ViewHistory>(
+    client: &mut RingClient<J, Note, AskNote>,
+    step: Step,
+    tries: u64,
+) -> ActResult
     ensures { SameClient client.old client.new }
 {
     for _try in 0..tries {
@@ -180,27 +184,27 @@ fn sends<J: ViewHistory>(client: &mut RingClient<J, Note, AskNote>, step: Step, 
         }
         thread::yield_now();
     }
-    Heard::Nothing
+    ActResult::Nothing
 }
 
 // Whether the ring had no slot.
-fn is_full(heard: Heard) -> bool {
+fn is_full(heard: ActResult) -> bool {
     matches!(
         heard,
-        Heard::Refused(Refusal::NoSlot | Refusal::RingFull(_))
+        ActResult::Refused(Refusal::NoSlot | Refusal::RingFull(_))
     )
 }
 
 // Collects once something has come.
-fn awaits<J: ViewHistory>(client: &mut RingClient<J, Note, AskNote>, tries: u64) -> Heard
+fn awaits<J: ViewHistory>(client: &mut RingClient<J, Note, AskNote>, tries: u64) -> ActResult
     ensures { SameClient client.old client.new }
 {
     for _try in 0..tries {
         let heard = makes(client, Step::Collect);
-        if heard != Heard::Nothing {
+        if heard != ActResult::Nothing {
             return heard;
         }
         thread::yield_now();
     }
-    Heard::Nothing
+    ActResult::Nothing
 }

@@ -15,8 +15,8 @@ use std::alloc::Global;
 use std::marker::Brand;
 use std::sync::Wait;
 use test_rig::{
-    Act, Driver, Heard, Move, Mover, Refusal, Said, Stage, State, Step, Stop, Wrong, cancels,
-    config, found_in, is_blank, log, log_of, request, state_of, switched, told,
+    Act, ActResult, Driver, MakesActs, Move, Mover, Refusal, Said, State, Step, Stop, Wrong,
+    cancels, config, found_in, is_blank, log, log_of, request, state_of, switched, told,
 };
 
 /// The setup of a port.
@@ -110,21 +110,21 @@ impl<'a, L: Ledger, R: Wait, X: Line + Drop> PortStage<'a, L, R, X> {
     }
 
     // A client joins, after the others.
-    fn join(&mut self, alloc: Global, places: u8) -> Heard {
+    fn join(&mut self, alloc: Global, places: u8) -> ActResult {
         if self.clients.reserve(1).is_err() {
-            return Heard::Nothing;
+            return ActResult::Nothing;
         }
         match self.port.client(self.rt, alloc, places) {
             Ok(client) => {
                 let number = self.clients.len() as u64;
                 self.clients.push_reserved(client);
-                Heard::Number(number)
+                ActResult::Number(number)
             }
-            Err(fault) => Heard::Refused(Refusal::Join(fault)),
+            Err(fault) => ActResult::Refused(Refusal::Join(fault)),
         }
     }
 
-    fn client(&mut self, alloc: Global, at: u8, step: Step) -> Heard {
+    fn client(&mut self, alloc: Global, at: u8, step: Step) -> ActResult {
         match step {
             Step::Submit(tag) => self.submit(at, tag),
             Step::Discover(kind, tag) => self.discover(at, kind, tag),
@@ -134,56 +134,56 @@ impl<'a, L: Ledger, R: Wait, X: Line + Drop> PortStage<'a, L, R, X> {
         }
     }
 
-    fn submit(&mut self, at: u8, tag: u64) -> Heard {
+    fn submit(&mut self, at: u8, tag: u64) -> ActResult {
         let note = self.note(tag);
         match self.clients.get_mut(usize::from(at)) {
             Some(client) => submits(self.rt, client, note),
-            None => Heard::Nothing,
+            None => ActResult::Nothing,
         }
     }
 
-    fn discover(&mut self, at: u8, kind: Kind, tag: u64) -> Heard {
+    fn discover(&mut self, at: u8, kind: Kind, tag: u64) -> ActResult {
         let note = self.note(tag);
         match self.clients.get_mut(usize::from(at)) {
             Some(client) => discovers(self.rt, client, kind, note),
-            None => Heard::Nothing,
+            None => ActResult::Nothing,
         }
     }
 
-    fn collect(&mut self, at: u8) -> Heard {
+    fn collect(&mut self, at: u8) -> ActResult {
         match self.clients.get_mut(usize::from(at)) {
             Some(client) => told(&client.collect(self.rt)),
-            None => Heard::Nothing,
+            None => ActResult::Nothing,
         }
     }
 
     #[inline(never)]
-    fn look(&mut self, at: u8) -> Heard {
+    fn look(&mut self, at: u8) -> ActResult {
         match self.clients.get_mut(usize::from(at)) {
             Some(client) => {
                 let view = client.devices(self.rt);
-                Heard::Sees(view.run, found_in(&view.set))
+                ActResult::Sees(view.run, found_in(&view.set))
             }
-            None => Heard::Nothing,
+            None => ActResult::Nothing,
         }
     }
 
     // This client leaves. The numbers of later clients decrease by one.
-    fn leave(&mut self, alloc: Global, at: u8) -> Heard {
+    fn leave(&mut self, alloc: Global, at: u8) -> ActResult {
         if usize::from(at) >= self.clients.len() || self.shares.reserve(1).is_err() {
-            return Heard::Nothing;
+            return ActResult::Nothing;
         }
         let Left { unspent, calls } = self.clients.remove(usize::from(at)).leave(self.rt);
         self.shares.push_reserved(calls);
         self.held = self.held.saturating_add(cancels(alloc, unspent));
-        Heard::Done
+        ActResult::Done
     }
 
-    fn work(&mut self, alloc: Global, turns: u64) -> Heard {
+    fn work(&mut self, alloc: Global, turns: u64) -> ActResult {
         let end = self
             .port
             .work(self.rt, alloc, &mut self.line, turns, &mut self.record);
-        Heard::Worked(stop_of(end))
+        ActResult::Worked(stop_of(end))
     }
 
     // All clients leave.
@@ -216,8 +216,8 @@ impl<'a, L: Ledger, R: Wait, X: Line + Drop> PortStage<'a, L, R, X> {
     }
 }
 
-impl<L: Ledger, R: Wait, X: Line + Drop> Stage for PortStage<'_, L, R, X> {
-    fn act(&mut self, alloc: Global, act: Act) -> Heard {
+impl<L: Ledger, R: Wait, X: Line + Drop> MakesActs for PortStage<'_, L, R, X> {
+    fn act(&mut self, alloc: Global, act: Act) -> ActResult {
         match act {
             Act::Join(places) => self.join(alloc, places),
             Act::Client(at, step) => self.client(alloc, at, step),
@@ -225,10 +225,10 @@ impl<L: Ledger, R: Wait, X: Line + Drop> Stage for PortStage<'_, L, R, X> {
             Act::Resume => switched(self.port.resume(self.rt)),
             Act::Close => {
                 self.port.close(self.rt);
-                Heard::Done
+                ActResult::Done
             }
             Act::Work(turns) => self.work(alloc, turns),
-            Act::Retire | Act::Take | Act::Deliver => Heard::Nothing,
+            Act::Retire | Act::Take | Act::Deliver => ActResult::Nothing,
         }
     }
 }
@@ -256,14 +256,14 @@ fn submits<'a, L: Ledger, R: Wait>(
     rt: &R,
     client: &mut Client<'a, L, R>,
     note: PortNote<'a, L, R>,
-) -> Heard {
+) -> ActResult {
     let tag = note.tag;
     match client.submit(rt, request(tag), note) {
-        Ok(number) => Heard::Number(number),
+        Ok(number) => ActResult::Number(number),
         Err((fault, back, note)) if back == request(tag) => {
-            Heard::Refused(Refusal::Submit(fault, note.tag))
+            ActResult::Refused(Refusal::Submit(fault, note.tag))
         }
-        Err(_) => Heard::Mixed,
+        Err(_) => ActResult::Mixed,
     }
 }
 
@@ -273,10 +273,10 @@ fn discovers<'a, L: Ledger, R: Wait>(
     client: &mut Client<'a, L, R>,
     kind: Kind,
     note: PortNote<'a, L, R>,
-) -> Heard {
+) -> ActResult {
     match client.discover(rt, kind, note) {
-        Ok(number) => Heard::Number(number),
-        Err((fault, note)) => Heard::Refused(Refusal::Ask(fault, note.tag)),
+        Ok(number) => ActResult::Number(number),
+        Err((fault, note)) => ActResult::Refused(Refusal::Ask(fault, note.tag)),
     }
 }
 

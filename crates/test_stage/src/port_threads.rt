@@ -12,7 +12,7 @@ use std::marker::Brand;
 use std::sync::Wait;
 use std::thread;
 use std::thread::{Threads, join_mut};
-use test_rig::{AskNote, Heard, Note, Stop, cancels, request, told};
+use test_rig::{ActResult, AskNote, Note, Stop, cancels, request, told};
 
 type Client<'a, L> = LockedClient<'a, L, Note, AskNote>;
 
@@ -181,9 +181,9 @@ fn asks<L: Ledger, R: Wait>(rt: &R, client: &mut Client<'_, L>, requests: u64) -
             submitted = submitted.saturating_add(1);
         }
         let heard = told(&client.collect(rt));
-        if heard == Heard::Answered(right, 1, 2) {
+        if heard == ActResult::Answered(right, 1, 2) {
             right = right.saturating_add(1);
-        } else if heard != Heard::Nothing {
+        } else if heard != ActResult::Nothing {
             break;
         } else {
             thread::yield_now();
@@ -212,7 +212,7 @@ fn asks_asleep<L: Ledger, R: Wait>(
         if pauses && port.resume(rt).is_err() {
             break;
         }
-        if next_asleep(rt, client) == Heard::Answered(tag, 1, 2) {
+        if next_asleep(rt, client) == ActResult::Answered(tag, 1, 2) {
             right = right.saturating_add(1);
         }
     }
@@ -220,16 +220,16 @@ fn asks_asleep<L: Ledger, R: Wait>(
 }
 
 // The next outcome. It comes at the first try, unless the worker hasn't begun yet.
-fn next_asleep<L: Ledger, R: Wait>(rt: &R, client: &mut Client<'_, L>) -> Heard {
+fn next_asleep<L: Ledger, R: Wait>(rt: &R, client: &mut Client<'_, L>) -> ActResult {
     for _try in 0..TRIES {
         client.wait_for_outcome(rt);
         let heard = told(&client.collect(rt));
-        if heard != Heard::Nothing {
+        if heard != ActResult::Nothing {
             return heard;
         }
         thread::yield_now();
     }
-    Heard::Nothing
+    ActResult::Nothing
 }
 
 // Submits the request with this tag. Returns whether it was accepted.

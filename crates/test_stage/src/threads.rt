@@ -18,7 +18,7 @@ use std::marker::Brand;
 use std::sync::Wait;
 use std::thread::{Threads, join_mut};
 use test_rig::{
-    AskNote, Heard, Note, Said, State, Stop, Wrong, config, is_blank, log, log_of, state_of,
+    ActResult, AskNote, Note, Said, State, Stop, Wrong, config, is_blank, log, log_of, state_of,
 };
 
 // More turns than a worker takes.
@@ -171,14 +171,14 @@ fn players_heard(players: &[Player], parts: &[Part<'_>]) -> Result<(), Failed> {
 }
 
 /// The player ran once, and got these results. Err: what differs, with the player's number.
-pub fn player_heard(player: &Player, number: usize, heard: &[Heard]) -> Result<(), Failed> {
+pub fn player_heard(player: &Player, number: usize, heard: &[ActResult]) -> Result<(), Failed> {
     if player.runs != 1 {
         return Err(Failed::Players);
     }
     for (line, came) in player.heard.iter().enumerate() {
-        let wanted = heard.get(line).copied().unwrap_or(Heard::Nothing);
+        let wanted = heard.get(line).copied().unwrap_or(ActResult::Nothing);
         if *came != wanted {
-            return Err(Failed::Heard(number, line, *came));
+            return Err(Failed::ActResult(number, line, *came));
         }
     }
     Ok(())

@@ -9,13 +9,13 @@ use std::alloc::Global;
 use std::sync::Wait;
 use std::test::Fail;
 use std::thread::Threads;
+use test_rig::ActResult::*;
 use test_rig::Ending::*;
 use test_rig::Found::*;
-use test_rig::Heard::*;
 use test_rig::Stop::{AllLeft, Turns};
 use test_rig::{
-    Act, AskNote, Came, Ending, Found, Heard, LineOf, Meeting, Move, NOTHING_KEPT, Note, Refusal,
-    Said, Step, Stop, TimedDevice, Who, Wrong, boxed_told, cancels, config, line_of, log,
+    Act, ActResult, AskNote, Came, Ending, Found, LineOf, Meeting, Move, NOTHING_KEPT, Note,
+    Refusal, Said, Step, Stop, TimedDevice, Who, Wrong, boxed_told, cancels, config, line_of, log,
     one_device, request, says, says_at, says_run, silent, tape_of, told,
 };
 use test_stage::{

@@ -6,14 +6,14 @@ use std::alloc::Global;
 use std::sync::Wait;
 use std::test::Fail;
 use std::thread::Threads;
+use test_rig::ActResult::*;
 use test_rig::Ending::{Aborted, Faultless};
 use test_rig::Found::*;
-use test_rig::Heard::*;
 use test_rig::Stop::Turns;
 use test_rig::{
-    Act, AskNote, Found, Heard, Move, Note, Refusal, SessionStage, Stage, State, Step, Stop, Who,
-    cancels, config, device_of, found_in, log, moved, one_device, open_session, request, state_of,
-    told,
+    Act, ActResult, AskNote, Found, MakesActs, Move, Note, Refusal, SessionStage, State, Step,
+    Stop, Who, cancels, config, device_of, found_in, log, moved, one_device, open_session, request,
+    state_of, told,
 };
 use test_stage::{LanesOver, PortSetup, Setup, counts_are, play_lanes, play_port};
 

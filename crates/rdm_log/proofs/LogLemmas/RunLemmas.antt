@@ -4,7 +4,7 @@ use Rattle.rdm_log.proofs.Common.{filter_map, map, Option, Some, None, fold, ◌
 use Rattle.rdm_log.proofs.Common.{◌∙◌, append-nil, inl, inr, ◌⊎◌, ◌||◌, list_any, before_first, position_or_len}
 use Rattle.rdm_log.proofs.Common.{cases_Bool, false≢true, eq-eqb, or_parts, map-append, list_any-append, fold_push}
 use Rattle.rdm_log.proofs.Common.{filter-append, none-some, same_Some, ArrayVec, Seen, LineEvent, Owner, Opening, Entry}
-use Rattle.rdm_log.proofs.Common.{Send, Came, Sending, Traded, traded_of, sending_of, came_of, answered_of, asks}
+use Rattle.rdm_log.proofs.Common.{Send, Came, Sending, OwnedExchange, traded_of, sending_of, came_of, answered_of, asks}
 use Rattle.rdm_log.proofs.Common.{answers, sends, cames, traded, is_run, sends_run, has_begun, entries_before_run}
 use Rattle.rdm_log.proofs.Common.{run_of_owner, last_run, unless_answered, open_run, asked_before, served}
 use Rattle.rdm_log.proofs.Common.{run_exchanges, run_frames, last_run_without_fault, devices_of, known_devices}
@@ -175,7 +175,7 @@ run_exchanges_came_other h s event r waits other =
 
 -- a run has no more exchanges than frames, and none before it begins
 length_exchanges_of : (r : ℕ) (ss : List Sending) (es : List LineEvent)
-    → length (map seen_of (filter (λ (t : Traded). is_run r t.owner) (map traded_of (zip ss es))))
+    → length (map seen_of (filter (λ (t : OwnedExchange). is_run r t.owner) (map traded_of (zip ss es))))
     ≤ length (filter (λ (s : Sending). is_run r s.owner) ss)
 length_exchanges_of r [] es = omega arith
 length_exchanges_of r (s ∷ ss) [] = omega arith
@@ -184,8 +184,8 @@ length_exchanges_of r (s ∷ ss) (e ∷ es) = by_test (is_run r s.owner) (length
     frames : List Sending
     frames = filter (λ (t : Sending). is_run r t.owner) ss
 
-    exchanges : List Traded
-    exchanges = filter (λ (t : Traded). is_run r t.owner) (map traded_of (zip ss es))
+    exchanges : List OwnedExchange
+    exchanges = filter (λ (t : OwnedExchange). is_run r t.owner) (map traded_of (zip ss es))
 
     by_test : (b : Bool) → length (map seen_of exchanges) ≤ length frames
         → length (map seen_of (cond b (traded_of (s, e) ∷ exchanges) exchanges)) ≤ length (cond b (s ∷ frames) frames)

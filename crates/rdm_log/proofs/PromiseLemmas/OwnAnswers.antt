@@ -3,9 +3,9 @@ use Rattle.rdm_log.proofs.Common.{◌≡◌, ℕ, ◌+◌, ◌<◌, ◌≤◌, B
 use Rattle.rdm_log.proofs.Common.{Option, Some, None, slice_get, if◌then◌else◌, refl, sym, ap, ◌∙◌, inl, inr, arith}
 use Rattle.rdm_log.proofs.Common.{append-nil, append_assoc, length-append, ◌≢◌, ◌&&◌, ◌==◌, option_map, false≢true}
 use Rattle.rdm_log.proofs.Common.{none-some, same_Some, slice_get-map, length_push, EachAfter, LineEvent, Reply, Status}
-use Rattle.rdm_log.proofs.Common.{Completed, FailedToSend, Joined, Opening, Entry, Finish, Finished, Traded, finishes}
+use Rattle.rdm_log.proofs.Common.{Completed, FailedToSend, Joined, Opening, Entry, Finish, Finished, OwnedExchange}
 use Rattle.rdm_log.proofs.Common.{verdict_on, of_request, verdicts, result, IsClosing, FitsResult, MayFinish, MayFollow}
-use Rattle.rdm_log.proofs.Common.{Legal}
+use Rattle.rdm_log.proofs.Common.{Legal, finishes}
 use Rattle.std.proofs.Common.{Result, Ok, Err}
 use Rattle.std.specs.Prelude.{not}
 use Rattle.rdm_wire.specs.declared.request.TheConstants.{QUEUED_MESSAGE}
@@ -132,11 +132,11 @@ decided_answer before (Whole r) j from e = one_of _ _ _ j e (no_answer_data _ re
 })
 decided_answer before (Part r) j from e = one_or_none _ _ j e (no_answer_data _ refl)
 
-decided_at : (before : List Judged) (ts : List Traded) (i : ℕ) (j : Joined)
+decided_at : (before : List Judged) (ts : List OwnedExchange) (i : ℕ) (j : Joined)
     → decides_option before (slice_get (map verdict_on ts) i) ≡ Some j → IsAnswer j
 decided_at before ts i j e = by_index (slice_get ts i) (rw (slice_get-map verdict_on ts i) at e)
   where
-    by_index : (t : Option Traded) → decides_option before (option_map verdict_on t) ≡ Some j → IsAnswer j
+    by_index : (t : Option OwnedExchange) → decides_option before (option_map verdict_on t) ≡ Some j → IsAnswer j
     by_index None e = absurd (none-some j e)
     by_index (Some t) e = decided_answer before (verdict_on t) j (of_event (sent_by t.frame.items) t.event) e
 

@@ -2,8 +2,8 @@
 use Rattle.rdm_log.proofs.Common.{◌≡◌, ℕ, ◌+◌, ◌%◌, length, zero, suc, true, List, [], ◌∷◌, ◌++◌, Some, slice_get, map}
 use Rattle.rdm_log.proofs.Common.{zip, refl, sym, ◌∙◌, eqb-true, eq-eqb, false≢true, none-some, same_Some, ArrayVec}
 use Rattle.rdm_log.proofs.Common.{EachAfter, Request, LineEvent, ClientId, Opening, Entry, Accept, Send, Accepted}
-use Rattle.rdm_log.proofs.Common.{Sending, Traded, traded_of, accepts, sends, cames, finishes, traded, of_request}
-use Rattle.rdm_log.proofs.Common.{is_request, next_tn, MaySendRequest, MayFollow, Legal}
+use Rattle.rdm_log.proofs.Common.{Sending, OwnedExchange, traded_of, accepts, sends, cames, finishes, traded}
+use Rattle.rdm_log.proofs.Common.{is_request, next_tn, MaySendRequest, MayFollow, Legal, of_request}
 use Rattle.rdm_log.specs.declared.entry.Owner.TheVariants as owners
 use Rattle.rdm_log.specs.promises.Headline.{CarriesRequest, OwnRequests}
 use Rattle.rdm_log.proofs.LogLemmas.Indices.{slice_get-append_left, each_index_push}
@@ -107,7 +107,7 @@ unfolding sends
 carries_none o = λ i s at n own. absurd (none-some s at)
 
 -- the frame of an exchange was sent
-sent_first : (ss : List Sending) (es : List LineEvent) (j : ℕ) (t : Traded)
+sent_first : (ss : List Sending) (es : List LineEvent) (j : ℕ) (t : OwnedExchange)
     → slice_get (map traded_of (zip ss es)) j ≡ Some t → slice_get ss j ≡ Some (record {
       owner = t.owner;
       frame = t.frame;
@@ -117,7 +117,7 @@ sent_first (s ∷ ss) [] j t at = absurd (none-some t at)
 sent_first (s ∷ ss) (e ∷ es) zero t at = rw (← same_Some (traded_of (s, e)) t at) refl
 sent_first (s ∷ ss) (e ∷ es) (suc j) t at = sent_first ss es j t at
 
-traded_sent : (h : List Entry) (j : ℕ) (t : Traded) → slice_get (traded h) j ≡ Some t
+traded_sent : (h : List Entry) (j : ℕ) (t : OwnedExchange) → slice_get (traded h) j ≡ Some t
     → slice_get (sends h) j ≡ Some (record { owner = t.owner; frame = t.frame })
 unfolding traded
 traded_sent h j t at = sent_first (sends h) (cames h) j t at
@@ -127,7 +127,7 @@ unfolding of_request
 own_requests o h legal = record {
   sent = λ i n frame at. sends_carry i (record { owner = owners.Request n; frame = frame }) at n (eq-eqb n n refl);
   carried = λ n i t at.
-      let found = filter_has (λ (x : Traded). is_request n x.owner) (traded h) i t at in (
+      let found = filter_has (λ (x : OwnedExchange). is_request n x.owner) (traded h) i t at in (
         _,
         sends_carry found.0 (record { owner = t.owner; frame = t.frame }) (traded_sent h found.0 t found.1) n
             found.2,

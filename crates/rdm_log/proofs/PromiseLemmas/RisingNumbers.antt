@@ -11,16 +11,16 @@ use Rattle.rdm_log.specs.declared.work.Work.TheVariants as works
 use Rattle.rdm_log.proofs.PromiseLemmas.BlockLemmas.{work_ok, work_adds}
 
 -- a count that never falls, and that an answer with a number passes by one
-record Counts (next : LogState → ℕ) (gives : ℕ → Answer) : Type 0 where
+record CountsNumbers (next : LogState → ℕ) (gives : ℕ → Answer) : Type 0 where
   grows : (k : LogState) (block : List Entry) → next k ≤ next (grown k block)
   passes : (k : LogState) (e : Event) (n : ℕ) (block : List Entry) → Adds k e (gives n) block → (n ≡ next k)
       × (next (grown k block) ≡ n + 1)
 
-next_grows : (next : LogState → ℕ) (gives : ℕ → Answer) → Counts next gives
+next_grows : (next : LogState → ℕ) (gives : ℕ → Answer) → CountsNumbers next gives
     → (old new : LogState) (e : Event) (r : Answer) → IsAnswered old e r new → next old ≤ next new
 next_grows next gives counts old new e r here = rw here.grows (counts.grows old here.block)
 
-later_number : (next : LogState → ℕ) (gives : ℕ → Answer) → Counts next gives
+later_number : (next : LogState → ℕ) (gives : ℕ → Answer) → CountsNumbers next gives
     → (old : LogState) (es : List Event) (rs : List Answer) (new : LogState) → Explains old es rs new → (j m : ℕ)
     → slice_get rs j ≡ Some (gives m) → next old ≤ m
 later_number next gives counts old es [] new explains j m at = absurd (none-some (gives m) at)
@@ -35,7 +35,7 @@ later_number next gives counts old (e ∷ es) (r ∷ rs) new explains (suc j) m 
       later_number next gives counts explains.0 es rs new explains.2 j m at,
     )
 
-rise : (next : LogState → ℕ) (gives : ℕ → Answer) → Counts next gives
+rise : (next : LogState → ℕ) (gives : ℕ → Answer) → CountsNumbers next gives
     → (old : LogState) (es : List Event) (rs : List Answer) (new : LogState) → Explains old es rs new → (i j n m : ℕ)
     → i < j → slice_get rs i ≡ Some (gives n) → slice_get rs j ≡ Some (gives m) → n < m
 rise next gives counts old es [] new explains i j n m before at_n at_m = absurd (none-some (gives n) at_n)
@@ -81,7 +81,7 @@ accepted_number k (events.Submit c request) n block adds =
     )
 accepted_number k _ n block adds = absurd adds
 
-requests_count : Counts next_number accepts_as
+requests_count : CountsNumbers next_number accepts_as
 requests_count = record {
   grows = λ k block. omega (
     arith,
@@ -113,7 +113,7 @@ asked_number k (events.Discover c kind) n block adds =
     )
 asked_number k _ n block adds = absurd adds
 
-discoveries_count : Counts next_discovery asks_as
+discoveries_count : CountsNumbers next_discovery asks_as
 discoveries_count = record {
   grows = λ k block. omega (
     arith,

@@ -7,7 +7,7 @@ use Rattle.rdm_log.proofs.Common.{is_closed, answers_to, NothingDue, MayFollow, 
 use Rattle.rdm_log.proofs.Common.{sample_frame, join_only, accepted_one, sent_one, finished_one, collected_one}
 use Rattle.rdm_log.proofs.Common.{closed_log, None, Some, slice_get, Opening, Entry, open_run, unfinished, unserved}
 use Rattle.rdm_log.proofs.Common.{next_tn, MaySendRequest}
-use Rattle.rdm_wire.specs.Packet.{Fits, Packet}
+use Rattle.rdm_wire.specs.Packet.{FieldsFit, Packet}
 use Rattle.rdm_wire.specs.CommandFrames.{request_fields}
 use Rattle.rdm_log.specs.declared.entry.Owner.TheVariants as owners
 use Rattle.rdm_log.specs.samples.Sample.{came_one}
@@ -20,7 +20,7 @@ pub some_list : {X : Type 0} (x : X) (xs : List X) → x ∷ xs ≢ []
 some_list x xs h = cc
 
 -- the fields of the sample request, whatever its transaction number
-pub sample_fits : (tn : ℕ) → tn < 256 → Fits (request_fields sample_request 0x7a7000000100 tn)
+pub sample_fits : (tn : ℕ) → tn < 256 → FieldsFit (request_fields sample_request 0x7a7000000100 tn)
 sample_fits tn small = record {
   dest = omega arith;
   source = omega arith;

@@ -116,22 +116,22 @@ unfoldable pub collectors : List Entry → List ℕ
 collectors h = filter_map collector_of h
 
 -- a frame, whose it is, and what came for it
-pub record Traded : Type 0 where
+pub record OwnedExchange : Type 0 where
   pub owner : Owner
   pub frame : ArrayVec ℕ
   pub event : LineEvent
 
 -- a Send with an event
-abbrev pub traded_of : Sending × LineEvent → Traded
+abbrev pub traded_of : Sending × LineEvent → OwnedExchange
 traded_of e = record { owner = e.0.owner; frame = e.0.frame; event = e.1 }
 
 -- the frames with what came for them, in order: the first Send with the first Came, and so on. A frame whose reply is
 -- awaited isn't among them
-unfoldable pub traded : List Entry → List Traded
+unfoldable pub traded : List Entry → List OwnedExchange
 traded h = map traded_of (zip (sends h) (cames h))
 
 -- a frame with what came for it, without its owner
-abbrev pub exchange_of : Traded → ArrayVec ℕ × LineEvent
+abbrev pub exchange_of : OwnedExchange → ArrayVec ℕ × LineEvent
 exchange_of t = (t.frame, t.event)
 
 -- a log's exchanges with the line, in order: each frame that was sent, with what came for it. A frame whose reply is
@@ -150,11 +150,11 @@ is_run r (owners.Request n) = false
 is_run r (owners.Run q) = r == q
 
 -- the exchanges of a request, in order
-unfoldable pub of_request : ℕ → List Entry → List Traded
+unfoldable pub of_request : ℕ → List Entry → List OwnedExchange
 of_request n h = filter (λ t. is_request n t.owner) (traded h)
 
 -- the verdict on an exchange of a request
-abbrev pub verdict_on : Traded → Judged
+abbrev pub verdict_on : OwnedExchange → Judged
 verdict_on t = verdict (sent_by t.frame.items) t.event
 
 -- the verdicts on the exchanges of a request, in order

@@ -14,7 +14,7 @@ use Rattle.rdm_log.specs.declared.entry.Owner.TheVariants as owners
 use Rattle.rdm_log.specs.declared.entry.Opening.{Opening}
 use Rattle.rdm_log.specs.declared.entry.Entry.{Entry}
 use Rattle.rdm_log.specs.declared.entry.Entry.TheVariants.{Send}
-use Rattle.rdm_log.specs.log.Entries.{AskedDiscovery, Answered, Traded, asks, answers, sends, traded, is_run}
+use Rattle.rdm_log.specs.log.Entries.{AskedDiscovery, Answered, OwnedExchange, asks, answers, sends, traded, is_run}
 use Rattle.rdm_log.specs.log.History.{unanswered}
 
 -- the entry is a Send of the run
@@ -75,7 +75,7 @@ abbrev pub served : ℕ → List Entry → List AskedDiscovery
 served r h = if has_begun r h then unserved (entries_before_run r h) else []
 
 -- a frame with what came for it, as an exchange that is asked and heard
-abbrev pub seen_of : Traded → Seen
+abbrev pub seen_of : OwnedExchange → Seen
 seen_of t = seen_event (t.frame, t.event)
 
 -- the exchanges of a run, in order, as asked and heard

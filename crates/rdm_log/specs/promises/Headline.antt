@@ -20,7 +20,7 @@ use Rattle.rdm_log.specs.declared.entry.Opening.{Opening}
 use Rattle.rdm_log.specs.declared.entry.Entry.{Entry}
 use Rattle.rdm_log.specs.declared.entry.Entry.TheVariants.{Refuse, Accept, Finish, Close}
 use Rattle.rdm_log.specs.declared.fault.WorkFault.TheVariants.{Full}
-use Rattle.rdm_log.specs.log.Entries.{Accepted, Finished, Traded, joins, accepts, asks, sends, finishes}
+use Rattle.rdm_log.specs.log.Entries.{Accepted, Finished, OwnedExchange, joins, accepts, asks, sends, finishes}
 use Rattle.rdm_log.specs.log.Entries.{of_request, verdicts, result}
 use Rattle.rdm_log.specs.log.History.{awaited, is_paused, is_closed, places, next_client, next_request, frames_sent}
 use Rattle.rdm_log.specs.log.History.{unfinished, unanswered, under_way, next_ask}
@@ -69,7 +69,7 @@ pub record OwnRequests (o : Opening) (h : List Entry) : Type 0 where
       → slice_get (sends h) i ≡ Some (record { owner = owners.Request n; frame = frame })
       → CarriesRequest o h n ((o.next_tn + i) % 256) frame.items
   -- and so does each frame in the request's exchanges
-  pub carried : (n i : ℕ) (t : Traded) → slice_get (of_request n h) i ≡ Some t
+  pub carried : (n i : ℕ) (t : OwnedExchange) → slice_get (of_request n h) i ≡ Some t
       → (tn : ℕ) × CarriesRequest o h n tn t.frame.items
 
 -- A Finish after h reports the joined answer of the request's own exchanges.

@@ -7,7 +7,7 @@ pub struct Careful<'a> {
     moves: &'a [Move],
     was_refused: bool,
     /// The first move with another result than expected, and that result.
-    wrong: Option<(usize, Heard)>,
+    wrong: Option<(usize, ActResult)>,
 }
 
 impl<'a> Careful<'a> {
@@ -26,7 +26,13 @@ impl<'a> Careful<'a> {
     }
 
     // The result of the act when it is made again, after it had this result for lack of memory.
-    fn again<S: Stage>(&mut self, alloc: Global, stage: &mut S, act: Act, came: Heard) -> Heard {
+    fn again<S: MakesActs>(
+        &mut self,
+        alloc: Global,
+        stage: &mut S,
+        act: Act,
+        came: ActResult,
+    ) -> ActResult {
         if self.was_refused {
             return came;
         }
@@ -46,12 +52,12 @@ impl<'a> Careful<'a> {
 }
 
 // Makes this many turns.
-fn works<S: Stage>(alloc: Global, stage: &mut S, turns: u64) {
+fn works<S: MakesActs>(alloc: Global, stage: &mut S, turns: u64) {
     let _ = stage.act(alloc, Act::Work(turns));
 }
 
 impl Driver for Careful<'_> {
-    fn drive<S: Stage>(&mut self, alloc: Global, stage: &mut S) {
+    fn drive<S: MakesActs>(&mut self, alloc: Global, stage: &mut S) {
         let moves = self.moves;
         for (number, (act, wanted)) in moves.iter().enumerate() {
             let mut came = stage.act(alloc, *act);

@@ -61,7 +61,7 @@ fn asks(
     controller: &mut Controller,
     line: &mut SimLine,
     number: u64,
-) -> Heard {
+) -> ActResult {
     check(
         rt,
         controller.submit(CLIENT, request(number)).ok() == Some(number),

@@ -145,7 +145,7 @@ fn asks(
     session: &mut Session,
     line: &mut SimLine,
     number: u64,
-) -> Heard {
+) -> ActResult {
     check(
         rt,
         session.submit(CLIENT, request(number)).ok() == Some(number),

@@ -58,7 +58,7 @@ fn asks<L: Ledger>(
     share: &mut CallShare<L>,
     line: &mut SimLine,
     number: u64,
-) -> Heard
+) -> ActResult
     requires { client.0 ≡ client_of share.old }
     ensures { client_of share.new ≡ client_of share.old }
 {

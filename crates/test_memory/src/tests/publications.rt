@@ -36,7 +36,7 @@ struct Patient<'a> {
 }
 
 impl Driver for Patient<'_> {
-    fn drive<S: Stage>(&mut self, alloc: Global, stage: &mut S) {
+    fn drive<S: MakesActs>(&mut self, alloc: Global, stage: &mut S) {
         let _ = stage.act(alloc, Act::Client(0, Step::Discover(Kind::Full, 1)));
         let _ = stage.act(alloc, Act::Work(1));
         let _ = stage.act(alloc, Act::Client(0, Step::Submit(2)));
@@ -52,7 +52,7 @@ impl Driver for Patient<'_> {
 
 // Works until the client sees the run's view. Until then it has to see the opening view and collect nothing, and the
 // line makes no exchange.
-fn waits_for_view<S: Stage>(alloc: Global, stage: &mut S, made: &AtomicU64) -> bool {
+fn waits_for_view<S: MakesActs>(alloc: Global, stage: &mut S, made: &AtomicU64) -> bool {
     for _turn in 0..FAILURES {
         if stage.act(alloc, LOOK) != Sees(0, Nobody) {
             break;
@@ -66,7 +66,7 @@ fn waits_for_view<S: Stage>(alloc: Global, stage: &mut S, made: &AtomicU64) -> b
 }
 
 // Collects, with further turns if an outcome waits for memory.
-fn collects<S: Stage>(alloc: Global, stage: &mut S) -> Heard {
+fn collects<S: MakesActs>(alloc: Global, stage: &mut S) -> ActResult {
     for _turn in 0..=FAILURES {
         let heard = stage.act(alloc, COLLECT);
         if heard != Nothing {

@@ -16,7 +16,7 @@ fn moves(rt: &impl Abort, alloc: Global, stage: &mut SessionStage<SimLine>, move
     careful.is_right(rt);
 }
 
-const FULL: Heard = Refused(Refusal::Submit(SubmitFault::Full, 0));
+const FULL: ActResult = Refused(Refusal::Submit(SubmitFault::Full, 0));
 
 #[test]
 fn join_client_of_one_place(rt: HostRuntime) {

@@ -50,7 +50,7 @@ fn act(index: usize) -> Act {
 }
 
 // The result of the act at this position.
-fn wanted(index: usize, closing: Closing) -> Heard {
+fn wanted(index: usize, closing: Closing) -> ActResult {
     match index {
         0 | 5 => Done,
         1..=3 => call(index, index >= closing.before),

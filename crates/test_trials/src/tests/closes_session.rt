@@ -26,7 +26,7 @@ fn frames_before(index: usize) -> usize {
 }
 
 // The result of the act at `index`, if the close comes before the act at `close_at`.
-fn wanted(index: usize, close_at: usize) -> Heard {
+fn wanted(index: usize, close_at: usize) -> ActResult {
     match index {
         0 | 5 => Done,
         1..=3 => call(index, index >= close_at),
@@ -42,7 +42,7 @@ fn wanted(index: usize, close_at: usize) -> Heard {
 }
 
 // The result of a take at this position.
-fn taken(index: usize, close_at: usize) -> Heard {
+fn taken(index: usize, close_at: usize) -> ActResult {
     if index == 4 || index >= close_at {
         return Nothing;
     }

@@ -10,7 +10,7 @@ pub const EXCHANGES: usize = 11;
 ///
 /// Before the first exchange the request comes first, since no run has begun. Later the run comes first. It is aborted
 /// unless all its ten exchanges were made. By the fifth it has found the device.
-pub fn due(exchanges: usize, accepted: usize) -> [Heard; 3] {
+pub fn due(exchanges: usize, accepted: usize) -> [ActResult; 3] {
     let mut due = [Nothing; 3];
     for (due, heard) in due.iter_mut().zip(&all_due(exchanges)[..accepted.min(3)]) {
         *due = *heard;
@@ -18,7 +18,7 @@ pub fn due(exchanges: usize, accepted: usize) -> [Heard; 3] {
     due
 }
 
-fn all_due(exchanges: usize) -> [Heard; 3] {
+fn all_due(exchanges: usize) -> [ActResult; 3] {
     if exchanges == 0 {
         [
             Request(0, FailedToSend),
@@ -35,7 +35,7 @@ fn all_due(exchanges: usize) -> [Heard; 3] {
 }
 
 // The outcome of the discovery with this tag.
-fn discovery(tag: u64, exchanges: usize) -> Heard {
+fn discovery(tag: u64, exchanges: usize) -> ActResult {
     if exchanges < 5 {
         Discovery(tag, 1, Aborted, Nobody)
     } else if exchanges < 10 {
@@ -45,7 +45,7 @@ fn discovery(tag: u64, exchanges: usize) -> Heard {
     }
 }
 
-fn request(exchanges: usize) -> Heard {
+fn request(exchanges: usize) -> ActResult {
     if exchanges < EXCHANGES {
         Request(0, FailedToSend)
     } else {
@@ -63,7 +63,7 @@ pub fn seen(exchanges: usize) -> (u64, Found) {
 }
 
 /// The same, as what a client sees.
-pub fn sees(exchanges: usize) -> Heard {
+pub fn sees(exchanges: usize) -> ActResult {
     let (run, found) = seen(exchanges);
     Sees(run, found)
 }
@@ -74,7 +74,7 @@ pub fn accepted_before(index: usize) -> usize {
 }
 
 /// The result of the call at this position, 1, 2 or 3.
-pub fn call(index: usize, is_closed: bool) -> Heard {
+pub fn call(index: usize, is_closed: bool) -> ActResult {
     match index {
         1 if is_closed => Refused(Refusal::Submit(SubmitFault::Closed, 0)),
         2 if is_closed => Refused(Refusal::Ask(AskFault::Closed, 0)),

@@ -33,7 +33,7 @@ fn free_by_hand(state: &State, size: usize) -> usize {
 }
 
 // Whether the act was refused for lack of free entries.
-fn is_refused(heard: Heard) -> bool {
+fn is_refused(heard: ActResult) -> bool {
     matches!(
         heard,
         Refused(

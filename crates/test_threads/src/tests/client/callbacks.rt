@@ -23,12 +23,12 @@ fn answered(alloc: Global) -> Result<Completion, Fail> {
 }
 
 // What a request's callback returned.
-fn of_request(one: Told) -> Heard {
+fn of_request(one: Told) -> ActResult {
     told(&Some(Collected::Request(one)))
 }
 
 // What a discovery's callback returned.
-fn of_ask(one: AskTold) -> Heard {
+fn of_ask(one: AskTold) -> ActResult {
     told(&Some(Collected::Ask(one)))
 }
 

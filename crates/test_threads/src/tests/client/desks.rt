@@ -8,9 +8,9 @@ use rdm_log::{BoxedOutcome, Completion};
 #[derive(Clone, Copy, Debug, PartialEq, Eq)]
 enum Settled {
     // A callback was called.
-    Spent(Heard),
+    Spent(ActResult),
     // The outcome was returned.
-    Back(Heard),
+    Back(ActResult),
 }
 
 // Settles this outcome.

@@ -66,7 +66,7 @@ static ASKER: Part<'static> = part! {
 };
 
 // What the client gets, if these are the outcomes of the third round.
-fn asker_heard(request: Heard, discovery: Heard) -> [Heard; 18] {
+fn asker_heard(request: ActResult, discovery: ActResult) -> [ActResult; 18] {
     let mut heard = [Nothing; 18];
     let (before, after) = ASKER.1.split_at(10);
     heard[..10].copy_from_slice(before);
@@ -77,7 +77,7 @@ fn asker_heard(request: Heard, discovery: Heard) -> [Heard; 18] {
 
 // Whether each call of the third round got one outcome, in order. If the close ended the request, it ended the
 // discovery too.
-fn is_cut(request: Heard, discovery: Heard) -> bool {
+fn is_cut(request: ActResult, discovery: ActResult) -> bool {
     match (request, discovery) {
         (Answered(2, 1, 2), Discovery(2, _, ending, _)) => {
             ending == Faultless || ending == Aborted

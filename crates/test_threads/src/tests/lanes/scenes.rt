@@ -26,11 +26,15 @@ static VIEWS: [Part<'static>; 2] = [
     part! { Look, Wait(0) => Done, Look => BOTH, Leave => Done },
 ];
 
-const BOTH: Heard = Sees(1, FirstAndSecond);
+const BOTH: ActResult = Sees(1, FirstAndSecond);
 
 // One client discovers, and the other one looks at what it found. Returns what the other one saw at first. Each has
 // read the last view.
-fn views<R: Threads + Wait + Sync>(rt: &R, alloc: Global, line: SimLine) -> Result<Heard, Fail> {
+fn views<R: Threads + Wait + Sync>(
+    rt: &R,
+    alloc: Global,
+    line: SimLine,
+) -> Result<ActResult, Fail> {
     let setup = Setup::new(1000, 4, &[1, 1]);
     let over = serve_players(rt, alloc, setup, &VIEWS, line).map_err(Failed::from)?;
     let (Some(finder), Some(viewer)) = (over.players.first(), over.players.get(1)) else {

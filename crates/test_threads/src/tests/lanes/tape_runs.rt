@@ -75,15 +75,15 @@ fn asked_by(frame: &Frame) -> Asked {
     (pid.unwrap_or(0), uid.unwrap_or(0))
 }
 
-const NONE: Heard = Sees(0, Nobody);
+const NONE: ActResult = Sees(0, Nobody);
 
-const KNOWN: Heard = Sees(1, FirstAndGone);
+const KNOWN: ActResult = Sees(1, FirstAndGone);
 
-const PRESENT: Heard = Sees(2, FirstAndSecond);
+const PRESENT: ActResult = Sees(2, FirstAndSecond);
 
-const FULL: Heard = Discovery(5, 1, Faultless, FirstAndGone);
+const FULL: ActResult = Discovery(5, 1, Faultless, FirstAndGone);
 
-const INCREMENTAL: Heard = Discovery(6, 2, Faultless, FirstAndSecond);
+const INCREMENTAL: ActResult = Discovery(6, 2, Faultless, FirstAndSecond);
 
 // Makes both runs, each with its last frame in the last turn. After the first run, the view is read before the answer
 // is collected. After the second run, the client knows what it collected without reading.

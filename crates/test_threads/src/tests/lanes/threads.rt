@@ -94,7 +94,7 @@ static SEARCHER: Part<'static> = part! {
 };
 
 // What the client gets if its runs find these devices.
-fn searched(found: Found, found_then: Found) -> [Heard; 11] {
+fn searched(found: Found, found_then: Found) -> [ActResult; 11] {
     [
         Done,
         Done,
@@ -143,7 +143,7 @@ fn a_second_device_comes_and_leaves_over_rings(rt: HostRuntime) -> Result<(), Fa
 }
 
 // What a discovery found, if that is the device that stays, and none that was never there.
-fn sound(heard: Heard) -> Option<Found> {
+fn sound(heard: ActResult) -> Option<Found> {
     match heard {
         Discovery(_, _, Faultless, found @ (First | FirstAndSecond)) => Some(found),
         _ => None,

@@ -5,7 +5,7 @@ use rdm_log::{AskFault, JoinFault, SubmitFault};
 // The capacity, how many entries are free, the moves, and how many calls are counted and callbacks are held at the end.
 type Row = (u8, usize, &'static [Move], (u64, u64));
 
-const MANY: Heard = Refused(Refusal::Join(JoinFault::TooManyClients));
+const MANY: ActResult = Refused(Refusal::Join(JoinFault::TooManyClients));
 
 // Such rows.
 macro_rules! ports {

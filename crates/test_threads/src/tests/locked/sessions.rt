@@ -2,12 +2,12 @@
 use crate::tests::*;
 use rdm_agent::DEFAULT_BUDGET;
 use rdm_wire::AckType;
-use test_rig::{Stage, moved, open_session};
+use test_rig::{MakesActs, moved, open_session};
 
 const COLLECT: Act = Act::Client(0, Step::Collect);
 
 // A GET whose answer has 511 empty parts and a last reply. Returns how it ended, and how many frames it took.
-fn with_empty_parts(alloc: Global, last: AckType) -> Result<(Heard, usize), Fail> {
+fn with_empty_parts(alloc: Global, last: AckType) -> Result<(ActResult, usize), Fail> {
     let mut came = [Came::Empty(AckType::Overflow); 512];
     came[511] = Came::Empty(last);
     let mut stage = open_session(alloc, 1, DEFAULT_BUDGET, 2000, tape_of(alloc, &came)?)?;
@@ -39,7 +39,7 @@ struct Failure {
     found: Found,
     // The devices that the session knows afterwards.
     known: (u64, Found),
-    request: Heard,
+    request: ActResult,
     // The last frame's transaction number, which is that of the GET.
     last: u8,
 }

@@ -35,7 +35,7 @@ fn the_last_client_that_leaves_wakes_the_worker(rt: HostRuntime) -> Result<(), F
 // A client waits for an outcome that nobody brings, and then collects.
 #[derive(Drop)]
 struct Waits {
-    heard: Option<Heard>,
+    heard: Option<ActResult>,
 }
 
 impl PortJob for Waits {

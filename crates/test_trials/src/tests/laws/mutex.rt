@@ -104,6 +104,6 @@ fn ends<L: Ledger, R: Wait>(rt: &R, client: &mut Client<'_, L>, report: &mut Rep
 }
 
 #[inline(never)]
-fn sees(view: &DeviceView) -> Heard {
+fn sees(view: &DeviceView) -> ActResult {
     Sees(view.run, found_in(&view.set))
 }

@@ -18,9 +18,9 @@ pub const TAGS: [u64; 4] = [7, 8, 9, 10];
 #[derive(Clone, Copy, Debug, PartialEq, Eq)]
 pub struct Report {
     /// The devices that it saw, at first and after each discovery.
-    pub seen: [Heard; 3],
+    pub seen: [ActResult; 3],
     /// Its discoveries' outcomes.
-    pub found: [Heard; 2],
+    pub found: [ActResult; 2],
     /// The tag and the reply's head of the GET and of the SET.
     pub replies: [Option<(u64, ReplyHead)>; 2],
 }

@@ -149,7 +149,7 @@ impl Body<Note, AskNote> for Asker {
 }
 
 #[inline(never)]
-fn sees<J: ViewHistory>(client: &mut Client<J>) -> Heard
+fn sees<J: ViewHistory>(client: &mut Client<J>) -> ActResult
     ensures { SameClient client.old client.new }
 {
     let view = client.devices();

@@ -25,7 +25,7 @@ pub enum Stop {
 
 /// The result of an act.
 #[derive(Clone, Copy, Debug, PartialEq, Eq)]
-pub enum Heard {
+pub enum ActResult {
     /// There was nothing to collect, take or deliver, there is no such client, or the stage doesn't support the act.
     Nothing,
     /// It was done, or sent.
@@ -53,9 +53,9 @@ pub enum Heard {
 }
 
 /// What a client collected. The number of a request or a discovery is its callback's tag.
-pub fn told(collected: &Option<Collected>) -> Heard {
+pub fn told(collected: &Option<Collected>) -> ActResult {
     match collected {
-        None => Heard::Nothing,
+        None => ActResult::Nothing,
         Some(Collected::Request(told)) => of_request(told.tag, &told.done),
         Some(Collected::Ask(told)) => {
             let done = &told.done;
@@ -66,9 +66,9 @@ pub fn told(collected: &Option<Collected>) -> Heard {
 
 /// What a session's outcome says. If it has no number, the number is one that is never given.
 #[inline(never)]
-pub fn outcome_told(outcome: &Option<Outcome>) -> Heard {
+pub fn outcome_told(outcome: &Option<Outcome>) -> ActResult {
     match outcome {
-        None => Heard::Nothing,
+        None => ActResult::Nothing,
         Some(Outcome::Request { number, done }) => of_request(number.unwrap_or(u64::MAX), done),
         Some(Outcome::Discovery { number, done }) => {
             let number = number.unwrap_or(u64::MAX);
@@ -78,7 +78,7 @@ pub fn outcome_told(outcome: &Option<Outcome>) -> Heard {
 }
 
 /// What a boxed outcome says.
-pub fn boxed_told(outcome: &BoxedOutcome) -> Heard {
+pub fn boxed_told(outcome: &BoxedOutcome) -> ActResult {
     match outcome {
         BoxedOutcome::Request { number, done } => of_request(*number, done),
         BoxedOutcome::Discovery { end, set } => {
@@ -88,23 +88,23 @@ pub fn boxed_told(outcome: &BoxedOutcome) -> Heard {
 }
 
 /// What a session's completion says.
-pub fn completion_told(completion: &Option<(u64, Completion)>) -> Heard {
+pub fn completion_told(completion: &Option<(u64, Completion)>) -> ActResult {
     match completion {
-        None => Heard::Nothing,
+        None => ActResult::Nothing,
         Some((number, done)) => of_request(*number, done),
     }
 }
 
 // How the request with this tag ended. There is a reply only for status Completed, and it is the device's reply to that
 // request.
-fn of_request(tag: u64, done: &Completion) -> Heard {
+fn of_request(tag: u64, done: &Completion) -> ActResult {
     match &done.reply {
-        None if done.status == Status::Completed || !done.bytes.is_empty() => Heard::Mixed,
-        None => Heard::Request(tag, done.status),
+        None if done.status == Status::Completed || !done.bytes.is_empty() => ActResult::Mixed,
+        None => ActResult::Request(tag, done.status),
         Some(head) if done.status == Status::Completed && is_of(head, tag) => {
             of_data(tag, done.bytes.as_slice())
         }
-        Some(_) => Heard::Mixed,
+        Some(_) => ActResult::Mixed,
     }
 }
 
@@ -117,10 +117,10 @@ fn is_of(head: &ReplyHead, tag: u64) -> bool {
 }
 
 // The data of the request with this tag.
-fn of_data(tag: u64, bytes: &[u8]) -> Heard {
+fn of_data(tag: u64, bytes: &[u8]) -> ActResult {
     match bytes {
-        [first, second] => Heard::Answered(tag, *first, *second),
-        _ => Heard::Data(tag, bytes.len()),
+        [first, second] => ActResult::Answered(tag, *first, *second),
+        _ => ActResult::Data(tag, bytes.len()),
     }
 }
 
@@ -133,6 +133,6 @@ fn found_by(done: &BoxedAsk) -> Found {
 }
 
 // How the discovery with this tag ended.
-fn of_discovery(tag: u64, run: u64, fault: Option<AgentFault>, found: Found) -> Heard {
-    Heard::Discovery(tag, run, ending_by(fault), found)
+fn of_discovery(tag: u64, run: u64, fault: Option<AgentFault>, found: Found) -> ActResult {
+    ActResult::Discovery(tag, run, ending_by(fault), found)
 }
