@@ -4,6 +4,7 @@ use Rattle.std.proofs.Common.{None, refl, sym, ap, ◌∙◌, subst, inl, inr, a
 use Rattle.std.specs.Prelude.{◌⊎◌, bytes_eq, slice_index}
 use Rattle.std.proofs.lemmas.Bool.{cases_Bool}
 use Rattle.std.proofs.lemmas.Slice.Eq.{bytes_eq-Decides}
+use Rattle.std.proofs.lemmas.Option.{none-some}
 use Rattle.hex.specs.Hex.{IsBytes}
 use Rattle.rdm_wire.specs.Bytes.{uid_bytes}
 use Rattle.rdm_wire.specs.Uid.{is_broadcast}
@@ -108,9 +109,6 @@ fields_ask (asks.Request r) s tn b w =
     no_class Get e = omega arith
     no_class Set e = omega arith
 
-some_is_not_none : (x : asked.Command × ℕ × ℕ) → Some x ≡ None → ⊥
-some_is_not_none x h = cc
-
 -- what is no command asks no device: were it one, it would be read
 nobody : (b : List ℕ) → IsBytes b → command_read b ≡ None → AsksNobody (asked_in b)
 nobody b bytes none =
@@ -120,7 +118,7 @@ nobody b bytes none =
     f = fields_at b
 
     not_read : (c : asked.Command) → Writes c f.source f.tn b → ⊥
-    not_read c w = some_is_not_none _ (sym (read_of-writes c f.source f.tn b w) ∙ none)
+    not_read c w = none-some _ (sym none ∙ read_of-writes c f.source f.tn b w)
 
     no_unmute : bytes_eq b (unmute_frame f.source f.tn) ≡ true → ⊥
     no_unmute same =

@@ -2,8 +2,9 @@
 use Rattle.std.proofs.Common.{◌≡◌, ℕ, ◌+◌, ◌-◌, ◌<◌, ◌≤◌, ◌^◌, Bool, true, false, ◌&&◌, cond, List, [], ◌++◌, length}
 use Rattle.std.proofs.Common.{drop, Option, Some, None, refl, sym, ap, ◌∙◌, subst, inl, inr, append-nil, arith}
 use Rattle.std.specs.Prelude.{◌⊎◌, ◌↔◌, ◌==◌, nat_le, bytes_eq, slice_index}
-use Rattle.std.proofs.lemmas.Bool.{eqb-true, and_parts, le-leb, leb-true}
+use Rattle.std.proofs.lemmas.Bool.{eqb-true, and_parts, le-leb, leb-true, false_from_ne_true}
 use Rattle.std.proofs.lemmas.Slice.Eq.{bytes_eq-Decides}
+use Rattle.std.proofs.lemmas.Option.{same_Some}
 use Rattle.hex.specs.Hex.{IsBytes}
 use Rattle.rdm_wire.specs.Bytes.{number_at, uid_bytes}
 use Rattle.rdm_wire.specs.Uid.{is_broadcast}
@@ -59,6 +60,9 @@ command_back (asks.Request r) s tn can in_order = of_class r.class refl
 pub equal_bytes : (b c : List ℕ) → b ≡ c → bytes_eq b c ≡ true
 equal_bytes b c same = (bytes_eq-Decides b c).1 same
 
+pub other_bytes : (b c : List ℕ) → (b ≡ c → ⊥) → bytes_eq b c ≡ false
+other_bytes b c other = false_from_ne_true (bytes_eq b c) (λ e. other ((bytes_eq-Decides b c).0 e))
+
 -- what an encoder writes is read as its command
 pub read_of-writes : (c : asked.Command) (s tn : ℕ) (b : List ℕ) → Writes c s tn b → command_read b ≡ Some (c, s, tn)
 read_of-writes c s tn b w =
@@ -82,15 +86,12 @@ record ReadsSo (b : List ℕ) (c : asked.Command) (s tn : ℕ) : Type 0 where
 reads_so : (b : List ℕ) (c : asked.Command) (s tn : ℕ) → command_read b ≡ Some (c, s, tn) → ReadsSo b c s tn
 reads_so b c s tn h = by_option (command_in (fields_at b)) refl h
   where
-    same_some : (x y : asked.Command × ℕ × ℕ) → Some x ≡ Some y → x ≡ y
-    same_some x y e = cc
-
     by_test : (d : asked.Command) → command_in (fields_at b) ≡ Some d
         → (t : Bool) → bytes_eq b (command_frame d (fields_at b).source (fields_at b).tn) ≡ t
         → cond {A = Option (asked.Command × ℕ × ℕ)} t (Some (d, (fields_at b).source, (fields_at b).tn)) None
         ≡ Some (c, s, tn) → ReadsSo b c s tn
     by_test d is true eq h =
-        let all = same_some _ _ h in
+        let all = same_Some _ _ h in
         let command : d ≡ c = ap (λ (x : asked.Command × ℕ × ℕ). x.0) all in
         let source : (fields_at b).source ≡ s = ap (λ (x : asked.Command × ℕ × ℕ). x.1) all in
         let number : (fields_at b).tn ≡ tn = ap (λ (x : asked.Command × ℕ × ℕ). x.2) all in

@@ -16,15 +16,15 @@ pub record IsLast {X : Type 0} (xs : List X) (e : X) (front : List X) (x : X) : 
   pub front_is : front ≡ xs
   pub is : x ≡ e
 
-no_more : {X : Type 0} (front back : List X) (x : X) → [] ≡ front ++ x ∷ back → ⊥
-no_more [] back x h = cc
-no_more (f ∷ front) back x h = cc
+pub no_element : {X : Type 0} (front back : List X) (x : X) → [] ≡ front ++ x ∷ back → ⊥
+no_element [] back x h = cc
+no_element (f ∷ front) back x h = cc
 
 last_or_before : {X : Type 0} (xs front back : List X) (e x : X) → xs ++ e ∷ [] ≡ front ++ x ∷ back
     → IsLast xs e front x
     ⊎ ((rest : List X) × (xs ≡ front ++ x ∷ rest))
 last_or_before [] [] back e x w = inl (record { front_is = refl; is = sym (ap (head_or e) w) })
-last_or_before [] (f ∷ front) back e x w = absurd (no_more front back x (ap tail_of w))
+last_or_before [] (f ∷ front) back e x w = absurd (no_element front back x (ap tail_of w))
 last_or_before (a ∷ xs) [] back e x w = inr (xs, ap (λ y. y ∷ xs) (ap (head_or a) w))
 last_or_before {X} (a ∷ xs) (f ∷ front) back e x w = onward (last_or_before xs front back e x (ap tail_of w))
   where

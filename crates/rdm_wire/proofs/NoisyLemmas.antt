@@ -181,14 +181,14 @@ honest_step present s (Mute u) h new ok quiet step = (step.0, honest_mute (has p
 honest_step present s Unmute h new ok quiet step = step
 honest_step present s Other h new ok quiet step = step
 
-has_failed : (h : Heard) → (h ≡ Failed) ⊎ (h ≢ Failed)
+pub has_failed : (h : Heard) → (h ≡ Failed) ⊎ (h ≢ Failed)
 has_failed Failed = inl refl
 has_failed Silent = inr (λ e. cc)
 has_failed (One u) = inr (λ e. cc)
 has_failed (Acked ack) = inr (λ e. cc)
 has_failed Noise = inr (λ e. cc)
 
-both_zero : (b : Bool) (n : ℕ) → cond b 1 0 + n ≡ 0 → (b ≡ false) × (n ≡ 0)
+pub both_zero : (b : Bool) (n : ℕ) → cond b 1 0 + n ≡ 0 → (b ≡ false) × (n ≡ 0)
 both_zero true n sum = absurd (omega (arith, sum))
 both_zero false n sum = (refl, omega (arith, sum))
 

@@ -3,9 +3,10 @@ use Rattle.std.proofs.Common.{◌≡◌, ℕ, suc, ◌+◌, ◌-◌, ◌<◌, �
 use Rattle.std.proofs.Common.{length, take, drop, Option, Some, None, Result, Ok, Err, refl, sym, ap, ◌∙◌, subst, inl}
 use Rattle.std.proofs.Common.{inr, append_assoc, length-append, arith, drop-cons}
 use Rattle.std.specs.Prelude.{◌⊎◌, ◌↔◌, ◌==◌, nat_lt, slice_index}
-use Rattle.std.proofs.lemmas.Bool.{eqb-true, ltb-false, not-false, cases_Bool}
+use Rattle.std.proofs.lemmas.Bool.{eqb-true, ltb-false, not-false, cases_Bool, or_parts}
 use Rattle.std.proofs.lemmas.List.{drop-drop, length-drop, take-append-drop, length-take-le}
 use Rattle.std.proofs.Math.Seq.{take-append_seam}
+use Rattle.std.proofs.lemmas.Option.{same_Some}
 use Rattle.hex.specs.Hex.{IsBytes}
 use Rattle.rdm_wire.specs.Bytes.{number_of, number_at, checksum, two_bytes, uid_bytes}
 use Rattle.rdm_wire.specs.Packet.{Fields, FieldsFit, fields_at, packet, body_of, header_of}
@@ -27,11 +28,8 @@ by_code : {X : Type 0} (code k : ℕ) (x y : X) (others : Option X) → cond (co
     → ((code ≡ k) × (x ≡ y)) ⊎ (others ≡ Some y)
 by_code {X} code k x y others h = by_test (cases_Bool (code == k))
   where
-    same : Some x ≡ Some y → x ≡ y
-    same e = cc
-
     by_test : ((code == k) ≡ true) ⊎ ((code == k) ≡ false) → ((code ≡ k) × (x ≡ y)) ⊎ (others ≡ Some y)
-    by_test (inl is) = inl (eqb-true code k is, same (subst (λ t. cond t (Some x) others ≡ Some y) is h))
+    by_test (inl is) = inl (eqb-true code k is, same_Some x y (subst (λ t. cond t (Some x) others ≡ Some y) is h))
     by_test (inr isnt) = inr (subst (λ t. cond t (Some x) others ≡ Some y) isnt h)
 
 -- the class and the type of a code have that code
@@ -80,10 +78,6 @@ record Decodes (b : List ℕ) (r : Response) : Type 0 where
   form : HasForm b
   response : response_of b (class_of_code (slice_index b 20)) (ack_of_code (slice_index b 16)) ≡ Ok r
 
-or_false : (x y : Bool) → (x || y) ≡ false → (x ≡ false) × (y ≡ false)
-or_false true y h = absurd (let wrong : ⊥ = cc in wrong)
-or_false false y h = (refl, h)
-
 decodes : (b : List ℕ) (r : Response) → decoded b ≡ Ok r → Decodes b r
 decodes b r h =
     let short = fault_is_not r (nat_lt (length b) 26) TooShort _ h in
@@ -94,7 +88,7 @@ decodes b r h =
     let pdl = fault_is_not r (not (slice_index b 23 == (slice_index b 2 - 24))) ParamLengthMismatch _ len.1 in
     let sum = fault_is_not r (not (number_at (slice_index b 2) 2 b == checksum (take (slice_index b 2) b))) Checksum _
     pdl.1 in
-    let lengths = or_false _ _ len.0 in record {
+    let lengths = or_parts _ _ len.0 in record {
       form = record {
         long = ltb-false _ _ short.0;
         start = eqb-true _ _ (not-false _ start.0);

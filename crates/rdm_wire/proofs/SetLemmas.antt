@@ -1,6 +1,6 @@
 -- Ascending lists of UIDs: where a UID stands in one, and the set with one more.
-use Rattle.std.proofs.Common.{◌≡◌, ℕ, zero, suc, ◌<◌, ◌≤◌, Bool, true, false, cond, List, [], ◌∷◌, length, get_or, Ok}
-use Rattle.std.proofs.Common.{Err, refl, sym, ap, ◌∙◌, inl, inr, true≢false, arith}
+use Rattle.std.proofs.Common.{◌≡◌, ℕ, zero, suc, ◌<◌, ◌≤◌, Bool, true, false, ◌||◌, cond, List, [], ◌∷◌, length, get_or}
+use Rattle.std.proofs.Common.{Err, refl, sym, ap, ◌∙◌, inl, inr, true≢false, arith, Ok}
 use Rattle.std.specs.Prelude.{◌==◌, nat_lt}
 use Rattle.std.specs.List.{AllByRecursion, insert}
 use Rattle.std.specs.List.Sorted.{IsBinarySearchResult}
@@ -8,6 +8,7 @@ use Rattle.std.specs.Ordering.{nat_cmp}
 use Rattle.std.proofs.lemmas.List.Folds.{list_any_at}
 use Rattle.std.proofs.lemmas.List.Sorted.{searched}
 use Rattle.std.proofs.lemmas.Bool.{cases_order, eqb-false, eq-eqb, ne_eqb, lt-ltb, le-ltb, ltb-true, ltb-false}
+use Rattle.std.proofs.lemmas.Bool.{eqb-true}
 use Rattle.rdm_wire.specs.Uid.{has, IsAscending, IsDevice, IsDeviceSet, with_uid}
 
 -- each is below those after it
@@ -92,7 +93,7 @@ all-with_uid P u (v ∷ us) p all = by_test (nat_lt u v) (u == v) (all-with_uid 
     by_test false true rest = all
     by_test false false rest = (all.0, rest)
 
-above_more : (n m : ℕ) (us : List ℕ) → n < m → AllByRecursion (λ w. m < w) us → AllByRecursion (λ w. n < w) us
+pub above_more : (n m : ℕ) (us : List ℕ) → n < m → AllByRecursion (λ w. m < w) us → AllByRecursion (λ w. n < w) us
 above_more n m [] p all = tt
 above_more n m (v ∷ us) p all = let q : m < v = all.0 in (omega arith, above_more n m us p all.1)
 
@@ -112,6 +113,26 @@ ascending-with_uid u (v ∷ us) a = by_test (nat_lt u v) (u == v) refl refl (asc
 pub devices-with_uid : (u : ℕ) (us : List ℕ) → IsDevice u → IsDeviceSet us → IsDeviceSet (with_uid u us)
 devices-with_uid u us d s =
     record { devices = all-with_uid IsDevice u us d s.devices; ascending = ascending-with_uid u us s.ascending }
+
+pub swapped : (a b c : Bool) → (a || (b || c)) ≡ (b || (a || c))
+swapped true true c = refl
+swapped true false c = refl
+swapped false b c = refl
+
+-- a member of a set with one more is it or was there
+pub has-with_uid : (u : ℕ) (vs : List ℕ) (w : ℕ) → has (with_uid u vs) w ≡ ((w == u) || has vs w)
+has-with_uid u [] w = refl
+has-with_uid u (v ∷ vs) w = by_test (nat_lt u v) (u == v) refl (has-with_uid u vs w)
+  where
+    twice : (a b : Bool) → (a || b) ≡ (a || (a || b))
+    twice true b = refl
+    twice false b = refl
+
+    by_test : (b c : Bool) → (u == v) ≡ c → has (with_uid u vs) w ≡ ((w == u) || has vs w)
+        → has (cond b (u ∷ v ∷ vs) (cond c (v ∷ vs) (v ∷ with_uid u vs))) w ≡ ((w == u) || ((w == v) || has vs w))
+    by_test true c same rest = refl
+    by_test false true same rest = rw (eqb-true u v same) (twice (w == v) (has vs w))
+    by_test false false same rest = ap (λ b. (w == v) || b) rest ∙ swapped (w == v) (w == u) (has vs w)
 
 -- what a search by halves says, where it finds u and where it doesn't
 pub search-there : (us : List ℕ) (u i : ℕ) → IsBinarySearchResult (λ v. nat_cmp v u) us (Ok i) → IsAscending us
