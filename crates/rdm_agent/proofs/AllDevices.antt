@@ -3,11 +3,8 @@ use Rattle.rdm_agent.proofs.Common.{◌≡◌, ℕ, Bool, true, false, List, [],
 use Rattle.rdm_agent.proofs.Common.{subst, inl, inr, true≢false, MatchBool, cons_option, has, Asked, Heard, Seen}
 use Rattle.rdm_agent.proofs.Common.{LineState, NoisyStep, Chain, LineCounts, KeepsMuted, MuteMovesInNoise, Unmute}
 use Rattle.rdm_agent.proofs.Common.{Mute, Other, Failed, Silent, One, Acked, Noise, MuteAck, is_acked, acked_uid}
-use Rattle.rdm_agent.proofs.Common.{acked_in, FailureIsLast, Branch}
+use Rattle.rdm_agent.proofs.Common.{acked_in, FailureIsLast, Branch, none-some}
 use Rattle.rdm_agent.proofs.Members.{put-has}
-
-none_some : (u : ℕ) → None ≡ Some u → ⊥
-none_some u h = cc
 
 -- only a present device acknowledges
 acked-mute : (present : List ℕ) (s new : LineState) (u v : ℕ) (ack : MuteAck) (b : Bool) → has present v ≡ b
@@ -25,13 +22,13 @@ pub acked_present : (present : List ℕ) (s new : LineState) (u : ℕ) (a : Aske
     → NoisyStep present s a h new → acked_uid a h ≡ Some u → has present u ≡ true
 acked_present present s new u (Mute v) (Acked ack) step p =
     acked-mute present s new u v ack (has present v) refl step.1 p
-acked_present present s new u (Mute v) Failed step p = absurd (none_some u p)
-acked_present present s new u (Mute v) Silent step p = absurd (none_some u p)
-acked_present present s new u (Mute v) (One w) step p = absurd (none_some u p)
-acked_present present s new u (Mute v) Noise step p = absurd (none_some u p)
-acked_present present s new u Unmute h step p = absurd (none_some u p)
-acked_present present s new u (Branch lo hi) h step p = absurd (none_some u p)
-acked_present present s new u Other h step p = absurd (none_some u p)
+acked_present present s new u (Mute v) Failed step p = absurd (none-some u p)
+acked_present present s new u (Mute v) Silent step p = absurd (none-some u p)
+acked_present present s new u (Mute v) (One w) step p = absurd (none-some u p)
+acked_present present s new u (Mute v) Noise step p = absurd (none-some u p)
+acked_present present s new u Unmute h step p = absurd (none-some u p)
+acked_present present s new u (Branch lo hi) h step p = absurd (none-some u p)
+acked_present present s new u Other h step p = absurd (none-some u p)
 
 -- a failure acknowledges nothing
 pub failed_none : (a : Asked) (h : Heard) → h ≡ Failed → acked_uid a h ≡ None

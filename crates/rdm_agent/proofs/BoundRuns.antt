@@ -22,7 +22,7 @@ use Rattle.rdm_agent.proofs.Potential.{Watched, with_aside}
 use Rattle.rdm_agent.proofs.Common.{NoisyStep, Unmute, Branch, Mute, Other, cond, false, ◌∙◌}
 use Rattle.rdm_agent.specs.Bound.{disturbed_row, FewDisturbed, IsNoisy, EndsInNoisyBound}
 use Rattle.rdm_wire.specs.Noisy.{NoisyTraceWith, is_disturbed, disturbed_in}
-use Rattle.rdm_wire.proofs.NoisyLemmas.{honest_undisturbed}
+use Rattle.rdm_wire.proofs.NoisyLemmas.{honest_undisturbed, both_zero}
 
 -- a disturbed exchange pays for itself, and no other one does; few branches in a row are disturbed
 record IsPaid (present : List ℕ) (s new : Watched) (bonus : ℕ) (asked : Asked) (h : Heard) : Type 0 where
@@ -122,10 +122,6 @@ unfolding bonus_of
 sums total rest true = omega arith
 sums total rest false = omega arith
 
-none_counted : (b : Bool) (rest : ℕ) → cond b 1 0 + rest ≡ 0 → (b ≡ false) × (rest ≡ 0)
-none_counted true rest none = absurd (omega (arith, none))
-none_counted false rest none = (refl, omega (arith, none))
-
 -- so do all exchanges of a run
 runs-afford : (present : List ℕ) → IsDeviceSet present → length present ≤ MOST_DEVICES
     → (total : ℕ) (kind : Kind) (known : List ℕ) (budget : ℕ) (x : List Seen) (s : LineState) (row : ℕ)
@@ -165,14 +161,14 @@ runs-afford present set few total kind known budget (e ∷ x) s row a b sound (i
     quick some = elim ok [
       | inl is ↦ is
       | inr none ↦ absurd (true≢false (sym ((unfolding_bonus (is_disturbed present s e.asked e.heard)).1 some)
-          ∙ (none_counted (is_disturbed present s e.asked e.heard) (disturbed_in present step.0 x step.2) none).0))
+          ∙ (both_zero (is_disturbed present s e.asked e.heard) (disturbed_in present step.0 x step.2) none).0))
     ]
 
     onward : ((fed a e.heard).search ≡ Quick) ⊎ (disturbed_in present step.0 x step.2 ≡ 0)
     onward = elim ok [
       | inl is ↦ inl (fed-search a e.heard ∙ is)
       | inr none ↦
-          inr (none_counted (is_disturbed present s e.asked e.heard) (disturbed_in present step.0 x step.2) none).1
+          inr (both_zero (is_disturbed present s e.asked e.heard) (disturbed_in present step.0 x step.2) none).1
     ]
 
 -- a run that goes on still costs an exchange at least
@@ -277,7 +273,7 @@ none_few present s row (e ∷ x) (inr step) none = (
 )
   where
     here : (is_disturbed present s e.asked e.heard ≡ false) × (disturbed_in present step.0 x step.2 ≡ 0)
-    here = none_counted (is_disturbed present s e.asked e.heard) (disturbed_in present step.0 x step.2) none
+    here = both_zero (is_disturbed present s e.asked e.heard) (disturbed_in present step.0 x step.2) none
 
     ends : (asked : Asked) → is_disturbed present s asked e.heard ≡ false
         → disturbed_row present s row asked e.heard ≡ 0

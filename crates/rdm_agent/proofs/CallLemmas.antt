@@ -201,7 +201,7 @@ module _ (a : AgentState) (end : next_op a ≡ End) (no_fault : fault_of a.phase
       absurd (some_none (fault_of a.phase) (aborted-fault a s.before s.is.1) no_fault)
 
 -- a cause's fact on the abort may be another
-cause-more : (search : Search) (budget : ℕ) (P Q : Type 0) (f : AgentFault) (x : List Seen) → (P → Q)
+pub cause-more : (search : Search) (budget : ℕ) (P Q : Type 0) (f : AgentFault) (x : List Seen) → (P → Q)
     → Cause search budget P f x → Cause search budget Q f x
 cause-more search budget P Q (Corrupt u) x more cause = cause
 cause-more search budget P Q TooMany x more cause = cause

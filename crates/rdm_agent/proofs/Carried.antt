@@ -1,11 +1,8 @@
 -- The frames that the encoders write carry the agent's operations.
 use Rattle.rdm_agent.proofs.Common.{◌≡◌, ℕ, ◌<◌, ◌^◌, Bool, true, false, cond, List, [], ◌∷◌, Option, Some, None}
-use Rattle.rdm_agent.proofs.Common.{bytes_eq, refl, sym, ap, ◌∙◌, subst, arith, ◌↔◌, nat_lt, Span, Asked, Heard, Seen}
-use Rattle.rdm_agent.proofs.Common.{Silent, Acked, Noise, MuteAck, BranchReply, Phase, AgentState, fed, heard_by_phase}
-use Rattle.rdm_agent.proofs.Common.{wanted, Unmuting, MutingKnown, Searching, MutingRead, Sweeping, MutingSwept, Ended}
-use Rattle.rdm_agent.proofs.Common.{Checking, MutingStray}
-use Rattle.rdm_agent.proofs.Common.{asked_by, heard_by, seen_op, next_op, op_of, op_frame, Op, OpReply}
-use Rattle.std.proofs.lemmas.Slice.Eq.{bytes_eq-Decides}
+use Rattle.rdm_agent.proofs.Common.{bytes_eq, refl, sym, ap, ◌∙◌, subst, arith, Span, Asked, Heard, Seen}
+use Rattle.rdm_agent.proofs.Common.{Silent, Acked, Noise, MuteAck, BranchReply}
+use Rattle.rdm_agent.proofs.Common.{asked_by, heard_by, seen_op, op_frame, Op, OpReply, ◌↔◌}
 use Rattle.rdm_wire.specs.BranchText.{ReadsAs}
 use Rattle.rdm_wire.specs.Reading.{text_read, ack_read}
 use Rattle.rdm_wire.specs.Packet.{Fields, fields_at}
@@ -21,20 +18,11 @@ use Rattle.rdm_wire.proofs.BytesLemmas.{number_of-uid_bytes}
 use Rattle.rdm_wire.proofs.PacketLemmas.{fields_at-packet}
 use Rattle.rdm_wire.proofs.Text.{text_read-of, of-text_read}
 use Rattle.rdm_wire.proofs.CommandLemmas.{one_command}
+use Rattle.rdm_wire.proofs.CommandReads.{equal_bytes, other_bytes}
 use Rattle.rdm_agent.specs.OpFrames.{IsSendable}
 use Rattle.rdm_agent.specs.Run.{mute_reply}
 use Rattle.rdm_agent.specs.declared.op.Op.TheVariants as ops
 use Rattle.rdm_agent.specs.declared.op.OpReply.TheVariants as came
-
-same_bytes : (b c : List ℕ) → b ≡ c → bytes_eq b c ≡ true
-same_bytes b c same = (bytes_eq-Decides b c).1 same
-
-other_bytes : (b c : List ℕ) → (b ≡ c → ⊥) → bytes_eq b c ≡ false
-other_bytes b c other = by_test (bytes_eq b c) refl
-  where
-    by_test : (t : Bool) → bytes_eq b c ≡ t → bytes_eq b c ≡ false
-    by_test true is = absurd (other ((bytes_eq-Decides b c).0 is))
-    by_test false is = is
 
 -- of some tests in order, the second holds first, or the third
 second : {W : Type 0} (p q : Bool) (a b c : W) → p ≡ false → q ≡ true → cond p a (cond q b c) ≡ b
@@ -84,7 +72,7 @@ can_branch s tn source number = record {
 pub unmute_asks : (s tn : ℕ) → FitsFrame commands.Unmute s tn → asked_in (unmute_frame s tn) ≡ unmuted
 unmute_asks s tn can =
     ap (asked_with (unmute_frame s tn)) (fields_at-packet (command_fields commands.Unmute s tn) can.fits)
-    ∙ rw (same_bytes (unmute_frame s tn) (unmute_frame s tn) refl) refl
+    ∙ rw (equal_bytes (unmute_frame s tn) (unmute_frame s tn) refl) refl
 
 pub branch_asks : (lo hi s tn : ℕ) → FitsFrame (branch_of lo hi) s tn
     → asked_in (branch_frame lo hi s tn) ≡ branched lo hi
@@ -107,7 +95,7 @@ branch_asks lo hi s tn can =
     bounds low high is_low is_high =
         second _ _ unmuted (branched low high) (cond (bytes_eq (branch_frame lo hi s tn) (mute_frame all_devices s tn))
         (muted all_devices) nothing) (other_bytes (branch_frame lo hi s tn) (unmute_frame s tn) no_unmute)
-        (same_bytes (branch_frame lo hi s tn) (branch_frame low high s tn)
+        (equal_bytes (branch_frame lo hi s tn) (branch_frame low high s tn)
         (ap (λ n. branch_frame n hi s tn) (sym is_low) ∙ ap (λ n. branch_frame low n s tn) (sym is_high)))
         ∙ ap (λ n. branched n high) is_low ∙ ap (λ n. branched lo n) is_high
 
@@ -117,7 +105,7 @@ mute_asks u s tn can =
     ∙ third _ _ _ unmuted (branched 0 0) (muted u) nothing
     (other_bytes (mute_frame u s tn) (unmute_frame s tn) no_unmute)
     (other_bytes (mute_frame u s tn) (branch_frame 0 0 s tn) no_branch)
-    (same_bytes (mute_frame u s tn) (mute_frame u s tn) refl)
+    (equal_bytes (mute_frame u s tn) (mute_frame u s tn) refl)
   where
     no_unmute : mute_frame u s tn ≡ unmute_frame s tn → ⊥
     no_unmute same =
@@ -175,26 +163,6 @@ mute_hears : (u s tn : ℕ) (bytes : List ℕ) → FitsFrame (commands.Mute u) s
 mute_hears u s tn bytes can = heard_after (mute_frame u s tn) (command_fields (commands.Mute u) s tn) (muted u) bytes
     (fields_at-packet (command_fields (commands.Mute u) s tn) can.fits) (mute_asks u s tn can)
 
--- while an agent unmutes, any reply is the same to it
-noise_is_silence : (a : AgentState) (phase : Phase) → op_of (wanted phase) ≡ ops.UnmuteAll
-    → heard_by_phase a phase Noise ≡ heard_by_phase a phase Silent
-noise_is_silence a (Unmuting more known) is = refl
-noise_is_silence a (MutingKnown u tries spare known) is = cc
-noise_is_silence a (Searching silences bads spent top below) is = cc
-noise_is_silence a (MutingRead u tries spare bads top below) is = cc
-noise_is_silence a (Sweeping sweep) is = cc
-noise_is_silence a (MutingSwept u tries spare sweep) is = cc
-noise_is_silence a (Checking u silences sweep) is = cc
-noise_is_silence a (MutingStray u tries spare sweep) is = cc
-noise_is_silence a (Ended fault) is = cc
-
-noise_fed : (a : AgentState) → next_op a ≡ ops.UnmuteAll → fed a Noise ≡ fed a Silent
-noise_fed a next = by_test (nat_lt a.frames a.budget) next
-  where
-    by_test : (b : Bool) → op_of (cond b (wanted a.phase) None) ≡ ops.UnmuteAll → fed a Noise ≡ fed a Silent
-    by_test true is = noise_is_silence a a.phase is
-    by_test false is = cc
-
 -- what is heard after a mute
 reply_heard : (u s tn : ℕ) (bytes : List ℕ)
     → heard_by (mute_reply (ack_read u s tn bytes) bytes) ≡ heard_bytes s tn (muted u) bytes
@@ -205,17 +173,6 @@ reply_heard u s tn (b ∷ bs) = by_option (ack_read u s tn (b ∷ bs))
     by_option None = refl
     by_option (Some ack) = refl
 
--- after an unmute
-pub unmute_fed : (a : AgentState) (s tn : ℕ) (bytes : List ℕ) → next_op a ≡ ops.UnmuteAll
-    → FitsFrame commands.Unmute s tn → fed a (heard_in (unmute_frame s tn) (Some bytes)) ≡ fed a (heard_by came.Done)
-unmute_fed a s tn bytes next can =
-    ap (fed a) (heard_after (unmute_frame s tn) (command_fields commands.Unmute s tn) unmuted bytes
-    (fields_at-packet (command_fields commands.Unmute s tn) can.fits) (unmute_asks s tn can)) ∙ by_bytes bytes
-  where
-    by_bytes : (l : List ℕ) → fed a (heard_bytes s tn unmuted l) ≡ fed a Silent
-    by_bytes [] = refl
-    by_bytes (b ∷ bs) = noise_fed a next
-
 -- the frame of each operation
 pub op_asks : (op : Op) (s tn : ℕ) → IsSendable op s tn → (op ≡ ops.End → ⊥) → asked_in (op_frame op s tn) ≡ asked_by op
 op_asks ops.UnmuteAll s tn can goes = unmute_asks s tn can
@@ -223,35 +180,10 @@ op_asks (ops.Mute u) s tn can goes = mute_asks u s tn can
 op_asks (ops.Branch r) s tn can goes = branch_asks r.lo r.hi s tn can
 op_asks ops.End s tn can goes = absurd (goes refl)
 
--- how a reply is heard, and how the bytes after the operation's frame are
+-- a reply to this operation is an acknowledgement exactly if that was heard
 abbrev Acks : Op → ℕ → ℕ → Option (List ℕ) → OpReply → Type 0
 Acks op s tn answer reply =
     (ack : MuteAck) → (reply ≡ came.Mute (Some ack)) ↔ (heard_in (op_frame op s tn) answer ≡ Acked ack)
-
-abbrev Feeds : Op → ℕ → ℕ → Option (List ℕ) → OpReply → Type 0
-Feeds op s tn answer reply =
-    (a : AgentState) → next_op a ≡ op → fed a (heard_by reply) ≡ fed a (heard_in (op_frame op s tn) answer)
-
-pub unmute_carried : (op : Op) (s tn : ℕ) (bytes : List ℕ) → IsSendable op s tn → op ≡ ops.UnmuteAll
-    → Acks op s tn (Some bytes) came.Done × Feeds op s tn (Some bytes) came.Done
-unmute_carried op s tn bytes can is =
-    subst (λ o. Acks o s tn (Some bytes) came.Done × Feeds o s tn (Some bytes) came.Done) (sym is)
-    (acks, λ a next. sym (unmute_fed a s tn bytes next own))
-  where
-    own : FitsFrame commands.Unmute s tn
-    own = subst (λ o. IsSendable o s tn) is can
-
-    silent : (l : List ℕ) (ack : MuteAck) → heard_bytes s tn unmuted l ≡ Acked ack → ⊥
-    silent [] ack h = cc
-    silent (b ∷ bs) ack h = cc
-
-    acks : Acks ops.UnmuteAll s tn (Some bytes) came.Done
-    acks ack = (
-      λ h. cc,
-      λ h. absurd (silent bytes ack
-          (sym (heard_after (unmute_frame s tn) (command_fields commands.Unmute s tn) unmuted bytes
-          (fields_at-packet (command_fields commands.Unmute s tn) own.fits) (unmute_asks s tn own)) ∙ h)),
-    )
 
 pub mute_carried : (op : Op) (u s tn : ℕ) (bytes : List ℕ) → IsSendable op s tn → op ≡ ops.Mute u
     → heard_by (mute_reply (ack_read u s tn bytes) bytes) ≡ heard_in (op_frame op s tn) (Some bytes)

@@ -2,7 +2,7 @@
 use Rattle.rdm_agent.proofs.Common.{◌≡◌, ℕ, zero, suc, ◌+◌, ◌^◌, ◌<◌, ◌≤◌, Bool, true, false, cond, List, [], ◌∷◌}
 use Rattle.rdm_agent.proofs.Common.{◌++◌, length, append_assoc, append-nil, Option, None, Some, refl, sym, ap, ◌∙◌}
 use Rattle.rdm_agent.proofs.Common.{subst, inl, inr, true≢false, arith, ◌≢◌, ◌⊎◌, ◌==◌, nat_le, nat_lt, MatchOption}
-use Rattle.rdm_agent.proofs.Common.{eqb-false, leb-true, and_parts, cond_both, AllByRecursion, has, IsDevice}
+use Rattle.rdm_agent.proofs.Common.{eqb-false, leb-true, and_parts, cond_both, AllByRecursion, has, IsDevice, none-some}
 use Rattle.rdm_agent.proofs.Common.{IsDeviceSet, uids_of, Span, whole, Asked, Heard, Seen, Unmute, Branch, Mute, Other}
 use Rattle.rdm_agent.proofs.Common.{Acked, Failed, Silent, One, Noise, acked_uid, muted_uid, acked_in, muted_in}
 use Rattle.rdm_agent.proofs.Common.{InSuccession, IsSilentBranch, SearchShows, Phase, AgentState, Runs, start_by}
@@ -12,9 +12,9 @@ use Rattle.rdm_agent.proofs.Common.{counted_silent, hushing, check_silent, is_ch
 use Rattle.rdm_agent.proofs.Common.{unassigned, Checking, MutingStray, ◌&&◌, believed_apart, is_in_vain}
 use Rattle.rdm_agent.proofs.Common.{MutingKnown, Searching, MutingRead, Sweeping, MutingSwept, Ended, IsStack, Kind}
 use Rattle.rdm_agent.proofs.Common.{Search, Steady, TRIES, search_silent, search_whole, spent_more}
-use Rattle.std.proofs.lemmas.List.{length-append}
+use Rattle.std.proofs.lemmas.List.{length-append, same_from_push}
 use Rattle.rdm_agent.specs.Statements.{CertificateIsTheEnd}
-use Rattle.rdm_agent.proofs.Members.{member, first_part, last_part, heads, tails, put-has, has-put, has-first}
+use Rattle.rdm_agent.proofs.Members.{member, first_part, last_part, put-has, has-put, has-first}
 use Rattle.rdm_agent.proofs.Sets.{has-set_of}
 use Rattle.rdm_agent.proofs.Stacks.{IsStack-pop, IsStack-ends}
 use Rattle.rdm_agent.specs.declared.belief.Part.{Part}
@@ -37,19 +37,6 @@ last_of [] = inl refl
 last_of (a ∷ l) =
     elim (last_of l) [ inl none ↦ inr ([], a, ap (λ t. a ∷ t) none) | inr s ↦ inr (a ∷ s.0, s.1, ap (λ t. a ∷ t) s.2) ]
 
-nothing_ends : {X : Type 0} (x : List X) (a : X) → [] ≡ x ++ a ∷ [] → ⊥
-nothing_ends [] a e = cc
-nothing_ends (b ∷ x) a e = cc
-
-same_ends : {X : Type 0} (x y : List X) (a b : X) → x ++ a ∷ [] ≡ y ++ b ∷ [] → (x ≡ y) × (a ≡ b)
-same_ends [] [] a b e = (refl, heads e)
-same_ends [] (c ∷ y) a b e = absurd (nothing_ends y b (tails e))
-same_ends (c ∷ x) [] a b e = absurd (nothing_ends x a (sym (tails e)))
-same_ends (c ∷ x) (d ∷ y) a b e = let rest = same_ends x y a b (tails e) in (cons (heads e) rest.0, rest.1)
-  where
-    cons : c ≡ d → x ≡ y → c ∷ x ≡ d ∷ y
-    cons p q = rw (p, q) refl
-
 module _ {P : Seen → Type 0} where
   -- the last exchanges of a list that grew by one
   grown_end : (n : ℕ) (x : List Seen) (e : Seen) → EndsWith (suc n) P (x ++ e ∷ []) → P e × EndsWith n P x
@@ -63,7 +50,7 @@ module _ {P : Seen → Type 0} where
 
       by_last : (run : List Seen) (last : Seen) → s.run ≡ run ++ last ∷ [] → P e × EndsWith n P x
       by_last run last is =
-          let same = same_ends x (s.front ++ run) e last
+          let same = same_from_push x (s.front ++ run) e last
           (s.whole ∙ ap (λ l. s.front ++ l) is ∙ sym (append_assoc s.front run (last ∷ []))) in
           let each = subst (λ l. AllOf l) is s.each in (
             subst P (sym same.1) (last_part P run (last ∷ []) each).0,
@@ -97,7 +84,7 @@ module _ {P : Seen → Type 0} where
       front = s.front;
       run = s.run;
       back = b.0;
-      whole = (same_ends x (s.front ++ s.run ++ b.0) e b.1
+      whole = (same_from_push x (s.front ++ s.run ++ b.0) e b.1
           (s.whole ∙ ap (λ l. s.front ++ s.run ++ l) b.2 ∙ aside b.0 b.1)).0;
       many = s.many;
       each = s.each;
@@ -481,10 +468,7 @@ module _ (kind : Kind) (known : List ℕ) (budget : ℕ) where
     by_phase (Ended fault) h sound p k = tt
 
     goes_on : (phase : Phase) (asked : Asked) → wanted phase ≡ Some asked → phase ≢ Ended None
-    goes_on phase asked w e = none_some (sym (ap wanted e) ∙ w)
-      where
-        none_some : None ≡ Some asked → ⊥
-        none_some q = cc
+    goes_on phase asked w e = none-some asked (sym (ap wanted e) ∙ w)
 
     fed-uncleared : (asked : Asked) (h : Heard) → wanted a.phase ≡ Some asked
         → InPhase a.search kind known budget a.phase x (found_uids a) → IsUncleared a.phase x

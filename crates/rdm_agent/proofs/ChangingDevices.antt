@@ -11,8 +11,8 @@ use Rattle.rdm_agent.proofs.OneDevice.{found}
 use Rattle.rdm_agent.proofs.AllDevices.{acked_present, failed_none}
 
 -- coming and leaving moves nothing of a device that stays
-stays_below : (u : ℕ) (earlier last present : List ℕ) (s moved t : LineState) → has last u ≡ true → has present u ≡ true
-    → ComeAndLeave earlier last present s moved → IsBelow u t s → IsBelow u t moved
+pub stays_below : (u : ℕ) (earlier last present : List ℕ) (s moved t : LineState) → has last u ≡ true
+    → has present u ≡ true → ComeAndLeave earlier last present s moved → IsBelow u t s → IsBelow u t moved
 stays_below u earlier last present s moved t was is m under =
     let branches = under.branches in let lost = under.lost in let same_branches = m.lost_branches in
     let same_mutes = m.lost_mutes in record {

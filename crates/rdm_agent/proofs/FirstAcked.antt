@@ -26,7 +26,7 @@ one_uid Unmute h = refl
 one_uid (Branch lo hi) h = refl
 one_uid Other h = refl
 
-uids-devices_in : (x : List Seen) → uids_of (devices_in x) ≡ acked_in x
+pub uids-devices_in : (x : List Seen) → uids_of (devices_in x) ≡ acked_in x
 uids-devices_in [] = refl
 uids-devices_in (e ∷ x) =
     same_uid (device_by e) (acked_uid e.asked e.heard) (devices_in x) (acked_in x) (one_uid e.asked e.heard)

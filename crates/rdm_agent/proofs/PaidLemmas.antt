@@ -13,7 +13,7 @@ use Rattle.rdm_agent.proofs.Common.{Ended, TRIES, Search, Steady, Quick, TooMany
 use Rattle.rdm_agent.proofs.Potential.{Ahead, sweep_cost, unfound, is_left, left_in, Covers, Costs, CostsKnown}
 use Rattle.rdm_agent.proofs.Potential.{Finds, Affords}
 use Rattle.rdm_agent.proofs.Members.{member}
-use Rattle.rdm_agent.proofs.Sets.{has-with_uid, length-with_uid}
+use Rattle.rdm_agent.proofs.Sets.{length-with_uid}
 use Rattle.rdm_agent.proofs.LeftLemmas.{no_more, no_more_than, one_fewer, first_passes}
 use Rattle.rdm_agent.proofs.CoverLemmas.{Covers-found, Covers-split, Covers-halves}
 use Rattle.rdm_agent.proofs.Common.{known_lost, Searching, MutingKnown}
@@ -22,6 +22,7 @@ use Rattle.rdm_agent.proofs.Common.{NoisyStep, MuteMovesInNoise, has_bytes, lowe
 use Rattle.rdm_wire.specs.Noisy.{is_disturbed_branch, MayHearInNoise}
 use Rattle.rdm_agent.proofs.CorruptLemmas.{is_new-device}
 use Rattle.rdm_agent.specs.Apart.{without}
+use Rattle.rdm_wire.proofs.SetLemmas.{has-with_uid}
 
 -- a phase that costs an exchange less
 pub record Cheaper (search : Search) (present : List ℕ) (line : Watched) (found : List ℕ) (cost : ℕ)

@@ -17,7 +17,7 @@ pub All-at : {X : Type 0} (P : X → Type 0) (xs front back : List X) (x : X) �
     → xs ≡ front ++ x ∷ back → P x
 All-at P xs front back x all whole = (last_part P front (x ∷ back) (subst (λ l. AllByRecursion P l) whole all)).0
 
-before_branch-cons : (e : Seen) (x : List Seen)
+pub before_branch-cons : (e : Seen) (x : List Seen)
     → before_first is_branch (e ∷ x) ≡ cond (is_branch e) [] (e ∷ before_first is_branch x)
 before_branch-cons e x = by_test (is_branch e) (position_or_len is_branch x)
   where

@@ -16,7 +16,6 @@ use Rattle.rdm_agent.proofs.Rows.{Answered, answered-by, answered-lost}
 use Rattle.rdm_agent.specs.Run.{read_by}
 use Rattle.rdm_agent.proofs.OneDevice.{NotFailed}
 use Rattle.rdm_agent.proofs.Pushes.{All-push, read-push_none, has-at}
-use Rattle.rdm_agent.proofs.Sets.{has-with_uid}
 use Rattle.rdm_agent.proofs.Stacks.{IsStack-ends}
 use Rattle.rdm_agent.proofs.BadLemmas.{WereBad-push, WereBad-without}
 use Rattle.rdm_agent.proofs.FoundLemmas.{IsFound-reported, IsFound-has, found-again, found-new, found-reports}
@@ -33,6 +32,7 @@ use Rattle.rdm_agent.proofs.CorruptLemmas.{not_corrupt-several, sound-silent, so
 use Rattle.rdm_agent.proofs.Invariant.{EndsWith, IsFound, MutesKnown, Searches, IsUnmuting, IsMutingKnown, IsSearching}
 use Rattle.rdm_agent.proofs.Invariant.{IsMutingRead, WasSpelt, InPhase, RunInvariant}
 use Rattle.rdm_agent.specs.Apart.{without}
+use Rattle.rdm_wire.proofs.SetLemmas.{has-with_uid}
 
 -- an exchange
 abbrev pub exchange : Asked → Heard → Seen
@@ -72,7 +72,7 @@ is_muting_read-device search known u tries spare bads top below x found p =
     let end = (IsStack-ends top below p.searches.stack).1 in record { in_range = omega arith; own = new.own }
 
 -- what one UID alone spelt is always soon enough
-soon-alone : (search : Search) (top : Span) (spent : ℕ) → top.lo ≡ top.hi → is_soon search top spent ≡ true
+pub soon-alone : (search : Search) (top : Span) (spent : ℕ) → top.lo ≡ top.hi → is_soon search top spent ≡ true
 soon-alone Steady top spent one = refl
 soon-alone Quick top spent one = rw (eq-eqb top.lo top.hi one) refl
 

@@ -3,7 +3,7 @@ use Rattle.rdm_agent.proofs.Common.{◌≡◌, ℕ, ◌+◌, ◌<◌, ◌≤◌,
 use Rattle.rdm_agent.proofs.Common.{Option, None, Some, refl, sym, ap, ◌∙◌, subst, append_assoc, append-nil, arith, ◌≢◌}
 use Rattle.rdm_agent.proofs.Common.{nat_lt, MatchOption, AllByRecursion, ltb-false, cond-false, length-map, IsDevice}
 use Rattle.rdm_agent.proofs.Common.{IsDeviceSet, Asked, Heard, Seen, Unmute, Branch, Mute, Acked, Failed, Silent, One}
-use Rattle.rdm_agent.proofs.Common.{Noise, FailureIsLast, Certificate, SearchShows, known_of, Cause}
+use Rattle.rdm_agent.proofs.Common.{Noise, FailureIsLast, Certificate, SearchShows, known_of, Cause, none-some}
 use Rattle.rdm_agent.proofs.Common.{EndsFailed, AllReported, Phase, AgentState, Runs, start_by, next_of, wanted}
 use Rattle.rdm_agent.proofs.Common.{fed, fault_of, heard_by_phase, to_phase, found_uids, Unmuting, MutingKnown}
 use Rattle.rdm_agent.proofs.Common.{Searching, MutingRead, Sweeping, MutingSwept, Ended, IsInOrder, Kind, Search}
@@ -162,10 +162,7 @@ module _ (kind : Kind) (known : List ℕ) (budget : ℕ) where
       by_test : (b : Bool) → nat_lt a.frames a.budget ≡ b → cond b (wanted a.phase) None ≡ Some asked
           → (nat_lt a.frames a.budget ≡ true) × (wanted a.phase ≡ Some asked)
       by_test true goes w = (goes, w)
-      by_test false out w = absurd (none_some w)
-        where
-          none_some : None ≡ Some asked → ⊥
-          none_some q = cc
+      by_test false out w = absurd (none-some asked w)
 
   runs-stand : (front x : List Seen) (a b : AgentState) → RunInvariant kind known budget front a → Runs a x b
       → RunInvariant kind known budget (front ++ x) b
@@ -221,10 +218,7 @@ too_early some early = omega arith
 
 not_wanted : (goes : Bool) (asked : Asked) → cond goes (Some asked) None ≡ None → goes ≡ false
 not_wanted false asked end = refl
-not_wanted true asked end = absurd (some_none end)
-  where
-    some_none : Some asked ≡ None → ⊥
-    some_none p = cc
+not_wanted true asked end = absurd (none-some asked (sym end))
 
 -- a run keeps its search
 kept-search : (a b : AgentState) (x : List Seen) → Runs a x b → b.search ≡ a.search

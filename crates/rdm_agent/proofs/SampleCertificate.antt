@@ -1,20 +1,14 @@
 -- The sample run has its certificate.
-use Rattle.rdm_agent.proofs.Common.{◌≡◌, ℕ, true, List, [], ◌∷◌, ◌++◌, take, drop, Some, None, refl, subst, inl, inr}
+use Rattle.rdm_agent.proofs.Common.{◌≡◌, ℕ, true, List, [], ◌∷◌, take, drop, Some, refl, subst, inl, inr}
 use Rattle.rdm_agent.proofs.Common.{arith, ◌⊎◌, nat_le, le-leb, and_from, has, EachAfter, Seen, Unmute, Mute, Silent}
 use Rattle.rdm_agent.proofs.Common.{One, Acked, EachAfter-push, muted_by, read_in, Certificate, SearchShows, sample_run}
-use Rattle.rdm_agent.proofs.Common.{sample_uid, sample_device, exchange, all_branch, Full}
+use Rattle.rdm_agent.proofs.Common.{sample_uid, sample_device, exchange, all_branch, Full, none-some}
 use Rattle.rdm_agent.specs.SampleRun.{sample_ack}
+use Rattle.rdm_wire.proofs.EachAfterLemmas.{no_element}
 
 -- a muted UID was read before
 abbrev WasRead : List Seen → Seen → Type 0
 WasRead before e = (u : ℕ) → muted_by e ≡ Some u → (has [] u ≡ true) ⊎ (has (read_in before) u ≡ true)
-
-no_mute : (u : ℕ) → None ≡ Some u → ⊥
-no_mute u h = cc
-
-no_element : (front back : List Seen) (e : Seen) → [] ≡ front ++ e ∷ back → ⊥
-no_element [] back e w = cc
-no_element (f ∷ front) back e w = cc
 
 is_sample : (u : ℕ) → Some sample_uid ≡ Some u → (has [] u ≡ true) ⊎ (has (sample_uid ∷ []) u ≡ true)
 is_sample u h = inr (subst (λ (v : ℕ). has (sample_uid ∷ []) v ≡ true) (same h) refl)
@@ -29,10 +23,10 @@ first_five =
     (EachAfter-push WasRead (take 2 sample_run) (exchange Unmute Silent)
     (EachAfter-push WasRead (take 1 sample_run) (exchange Unmute Silent)
     (EachAfter-push WasRead [] (exchange Unmute Silent) (λ front back e w. absurd (no_element front back e w))
-    (λ u m. absurd (no_mute u m)))
-    (λ u m. absurd (no_mute u m)))
-    (λ u m. absurd (no_mute u m)))
-    (λ u m. absurd (no_mute u m)))
+    (λ u m. absurd (none-some u m)))
+    (λ u m. absurd (none-some u m)))
+    (λ u m. absurd (none-some u m)))
+    (λ u m. absurd (none-some u m)))
     is_sample
 
 silent_branch : Seen
@@ -45,11 +39,11 @@ read_before =
     (EachAfter-push WasRead (take 8 sample_run) silent_branch
     (EachAfter-push WasRead (take 7 sample_run) silent_branch
     (EachAfter-push WasRead (take 6 sample_run) silent_branch
-    (EachAfter-push WasRead (take 5 sample_run) silent_branch first_five (λ u m. absurd (no_mute u m)))
-    (λ u m. absurd (no_mute u m)))
-    (λ u m. absurd (no_mute u m)))
-    (λ u m. absurd (no_mute u m)))
-    (λ u m. absurd (no_mute u m))
+    (EachAfter-push WasRead (take 5 sample_run) silent_branch first_five (λ u m. absurd (none-some u m)))
+    (λ u m. absurd (none-some u m)))
+    (λ u m. absurd (none-some u m)))
+    (λ u m. absurd (none-some u m)))
+    (λ u m. absurd (none-some u m))
 
 shown : SearchShows Full [] sample_run (sample_uid ∷ [])
 shown = record {

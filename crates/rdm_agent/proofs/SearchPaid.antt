@@ -25,6 +25,7 @@ use Rattle.rdm_agent.proofs.Potential.{Watched, IsFirstTime, IsAskedAgain}
 use Rattle.rdm_wire.specs.Noisy.{is_disturbed_branch, MayHearInNoise}
 use Rattle.rdm_agent.proofs.Common.{eq-eqb}
 use Rattle.rdm_agent.proofs.PaidLemmas.{Finds-keeps, to_phase-affords, to_found-affords}
+use Rattle.rdm_agent.proofs.RunLemmas.{soon-alone}
 
 -- one more branch is counted
 spent-one : (spent : ℕ) → spent ≤ 9 → spent_more spent ≡ spent + 1
@@ -137,10 +138,6 @@ early-soon top spent several soon = elim (or_cases (is_one top) (nat_le (spent +
   | inl one ↦ absurd (true≢false (sym one ∙ several))
   | inr early ↦ let less : spent + 1 ≤ 5 = leb-true (spent + 1) 5 early in omega (arith, less)
 ]
-
-soon-one : (search : Search) (top : Span) (spent : ℕ) → top.lo ≡ top.hi → is_soon search top spent ≡ true
-soon-one Steady top spent one = refl
-soon-one Quick top spent one = rw (eq-eqb top.lo top.hi one) refl
 
 -- while a UID that was spelt is muted, its ranges pay
 pub read-some : (present : List ℕ) (s : Watched) (found : List ℕ) (u tries : ℕ) (top : Span) (below : List Span)
@@ -300,7 +297,7 @@ module _ (present : List ℕ) (set : IsDeviceSet present) (few : length present 
               | inl is ↦ let few = costs.few in
                   subst (λ n. is_soon a.search top n ≡ true) (sym (spent-one spent (omega (arith, few, is))))
                   (soon-early a.search top spent (omega (arith, few, is)))
-              | inr one ↦ soon-one a.search top (spent_more spent) one.1
+              | inr one ↦ soon-alone a.search top (spent_more spent) one.1
             ]
 
         -- so few branches aren't paid for yet

@@ -6,7 +6,7 @@ use Rattle.rdm_agent.proofs.Common.{is_acked, Branch, Mute, Acked, MuteAck, mute
 use Rattle.rdm_agent.proofs.Common.{InSuccession, IsSilentBranch, IsLostMute, SearchShows, IsTried, IsCleared, known_of}
 use Rattle.rdm_agent.proofs.Common.{IsCorrupt, split, search_below, Kind, TRIES, Search, Steady, Quick, IsCorruptBy}
 use Rattle.rdm_agent.proofs.Common.{asks_again, spare_at, search_apart, lower_half, nat_lt, ltb-true, ltb-false, ◌≤◌}
-use Rattle.rdm_agent.proofs.Common.{eq-eqb, ◌∙◌, BAD_ANSWERS, answers_in_a_row}
+use Rattle.rdm_agent.proofs.Common.{eq-eqb, ◌∙◌, BAD_ANSWERS, answers_in_a_row, none-some}
 use Rattle.rdm_agent.proofs.Rows.{NotCorrupt, Answered, same-row, none-row, several-none}
 use Rattle.rdm_agent.proofs.Members.{first_part}
 use Rattle.rdm_agent.proofs.OneDevice.{NotFailed}
@@ -112,14 +112,11 @@ all_cleared kind known x found w known_first cleared = record {
   no_failure = w.no_failure;
   set = w.is_found.set;
   tried = each_member (IsTried found x) (muted_in x)
-      (λ u muted. elim (w.tried u muted) [ inl nobody ↦ absurd (none_some u nobody) | inr tried ↦ tried ]);
+      (λ u muted. elim (w.tried u muted) [ inl nobody ↦ absurd (none-some u nobody) | inr tried ↦ tried ]);
   cleared = cleared;
   known_first = each_member _ (known_of kind known) known_first;
   read_first = w.named;
 }
-  where
-    none_some : (u : ℕ) → None ≡ Some u → ⊥
-    none_some u p = cc
 
 -- the top range is popped: the next one is searched, or the run ends
 pub search-next : (search : Search) (kind : Kind) (known : List ℕ) (budget : ℕ) (top : Span) (below : List Span)

@@ -7,7 +7,7 @@ use Rattle.std.proofs.lemmas.Bool.{or_parts, cond-true}
 use Rattle.std.proofs.Math.Bool.{or-false}
 use Rattle.std.proofs.lemmas.List.Sums.{fold_push}
 use Rattle.rdm_wire.specs.Lists.{with_new}
-use Rattle.rdm_wire.proofs.SetLemmas.{ascending-with_uid}
+use Rattle.rdm_wire.proofs.SetLemmas.{ascending-with_uid, has-with_uid, swapped}
 use Rattle.rdm_agent.proofs.Members.{member}
 
 -- a member of a list in front of which another stands
@@ -66,26 +66,6 @@ same_members (u ∷ us) (v ∷ vs) a b f g = rw (heads, same_members us vs a.1 b
 pub ascending-set_of : (us : List ℕ) → IsAscending (set_of us)
 ascending-set_of [] = tt
 ascending-set_of (u ∷ us) = ascending-with_uid u (set_of us) (ascending-set_of us)
-
-swapped : (a b c : Bool) → (a || (b || c)) ≡ (b || (a || c))
-swapped true true c = refl
-swapped true false c = refl
-swapped false b c = refl
-
--- a member of a set with one more is it or was there
-pub has-with_uid : (u : ℕ) (vs : List ℕ) (w : ℕ) → has (with_uid u vs) w ≡ ((w == u) || has vs w)
-has-with_uid u [] w = refl
-has-with_uid u (v ∷ vs) w = by_test (nat_lt u v) (u == v) refl (has-with_uid u vs w)
-  where
-    twice : (a b : Bool) → (a || b) ≡ (a || (a || b))
-    twice true b = refl
-    twice false b = refl
-
-    by_test : (b c : Bool) → (u == v) ≡ c → has (with_uid u vs) w ≡ ((w == u) || has vs w)
-        → has (cond b (u ∷ v ∷ vs) (cond c (v ∷ vs) (v ∷ with_uid u vs))) w ≡ ((w == u) || ((w == v) || has vs w))
-    by_test true c same rest = refl
-    by_test false true same rest = rw (eqb-true u v same) (twice (w == v) (has vs w))
-    by_test false false same rest = ap (λ b. (w == v) || b) rest ∙ swapped (w == v) (w == u) (has vs w)
 
 -- a set's members are the list's
 pub has-set_of : (us : List ℕ) (w : ℕ) → has (set_of us) w ≡ has us w

@@ -4,7 +4,7 @@ use Rattle.rdm_agent.proofs.Common.{◌∙◌, subst, inl, inr, true≢false, ap
 use Rattle.rdm_agent.proofs.Common.{IsDevice, Heard, Seen, is_acked, Branch, Mute, Acked, Failed, Silent, One, Noise}
 use Rattle.rdm_agent.proofs.Common.{MuteAck, EachAfter-push, acked_uid, muted_by, read_in, InSuccession, IsLostMute}
 use Rattle.rdm_agent.proofs.Common.{IsTried, MutesNamed, TRIES, length, AllByRecursion, arith, ◌≤◌, zero, suc}
-use Rattle.rdm_agent.proofs.Common.{cases_lt}
+use Rattle.rdm_agent.proofs.Common.{cases_lt, none-some, same_Some}
 use Rattle.rdm_agent.proofs.OneDevice.{NotFailed}
 use Rattle.rdm_agent.proofs.Pushes.{All-push, push-has, begun-push, IsTried-push}
 use Rattle.rdm_agent.proofs.Invariant.{EndsWith, IsFound, IsUnderWay}
@@ -81,10 +81,8 @@ lost-acks_none u Noise lost = refl
 -- a mute of a UID that is known, or was read
 pub named-mute : (known : List ℕ) (x : List Seen) (u : ℕ) (h : Heard) → (has known u ≡ true)
     ⊎ (has (read_in x) u ≡ true) → MutesNamed known x (record { asked = Mute u; heard = h })
-named-mute known x u h was v p = subst (λ (w : ℕ). (has known w ≡ true) ⊎ (has (read_in x) w ≡ true)) (same p) was
-  where
-    same : Some u ≡ Some v → u ≡ v
-    same q = cc
+named-mute known x u h was v p =
+    subst (λ (w : ℕ). (has known w ≡ true) ⊎ (has (read_in x) w ≡ true)) (same_Some u v p) was
 
 module _ (known : List ℕ) (x : List Seen) (found : List ℕ) where
   -- what one more exchange keeps: later and more are what is busy and found after it
@@ -113,14 +111,11 @@ module _ (known : List ℕ) (x : List Seen) (found : List ℕ) where
       → IsUnderWay known busy (x ++ record { asked = Branch lo hi; heard = h } ∷ []) found
   under_way-branch busy lo hi h w sound is_found =
       pushed None busy found (record { asked = Branch lo hi; heard = h }) w sound is_found (λ u here. here)
-      (λ u was. absurd (nobody u was)) (λ u was. absurd (none_some u was))
+      (λ u was. absurd (nobody u was)) (λ u was. absurd (none-some u was))
     where
-      none_some : (u : ℕ) → None ≡ Some u → ⊥
-      none_some u p = cc
-
       nobody : (u : ℕ) → (None ≡ Some u) ⊎ (None ≡ Some u) → ⊥
-      nobody u (inl p) = none_some u p
-      nobody u (inr p) = none_some u p
+      nobody u (inl p) = none-some u p
+      nobody u (inr p) = none-some u p
 
   -- a mute that is lost
   pub under_way-lost : (u : ℕ) (h : Heard) → IsUnderWay known (Some u) x found
@@ -144,11 +139,9 @@ module _ (known : List ℕ) (x : List Seen) (found : List ℕ) where
       sound : Acked ack ≡ Failed → ⊥
       sound p = cc
 
-      same : (v : ℕ) → Some u ≡ Some v → u ≡ v
-      same v p = cc
-
       tried : (v : ℕ) → Some u ≡ Some v → IsTried more (x ++ record { asked = Mute u; heard = Acked ack } ∷ []) v
-      tried v p = subst (λ (w : ℕ). IsTried more (x ++ record { asked = Mute u; heard = Acked ack } ∷ []) w) (same v p)
+      tried v p =
+          subst (λ (w : ℕ). IsTried more (x ++ record { asked = Mute u; heard = Acked ack } ∷ []) w) (same_Some u v p)
           (record { device = device; tried = inl here })
 
 -- what is given up was lost five times
@@ -159,14 +152,12 @@ under_way-given_up known u x found device five w = record {
   no_failure = w.no_failure;
   is_found = w.is_found;
   tried = λ v h. elim (w.tried v h) [
-    | inl busy ↦ inr (subst (λ (w : ℕ). IsTried found x w) (same v busy) (record { device = device; tried = inr five }))
+    | inl busy ↦ inr (subst (λ (w : ℕ). IsTried found x w) (same_Some u v busy)
+        (record { device = device; tried = inr five }))
     | inr tried ↦ inr tried
   ];
   named = w.named;
 }
-  where
-    same : (v : ℕ) → Some u ≡ Some v → u ≡ v
-    same v p = cc
 
 -- the next one has begun
 pub under_way-next_begun : (known : List ℕ) (u : ℕ) (x : List Seen) (found : List ℕ) → IsUnderWay known None x found
@@ -175,9 +166,6 @@ under_way-next_begun known u x found w = record {
   begun = w.begun;
   no_failure = w.no_failure;
   is_found = w.is_found;
-  tried = λ v h. elim (w.tried v h) [ inl nobody ↦ absurd (none_some v nobody) | inr tried ↦ inr tried ];
+  tried = λ v h. elim (w.tried v h) [ inl nobody ↦ absurd (none-some v nobody) | inr tried ↦ inr tried ];
   named = w.named;
 }
-  where
-    none_some : (v : ℕ) → None ≡ Some v → ⊥
-    none_some v p = cc

@@ -1,8 +1,8 @@
 -- The three unmutes, with which a run begins.
 use Rattle.rdm_agent.proofs.Common.{◌≡◌, ℕ, ◌-◌, ◌≤◌, false, true, List, [], ◌∷◌, ◌++◌, length, map, take, Option, None}
-use Rattle.rdm_agent.proofs.Common.{Some, refl, sym, ap, ◌∙◌, subst, inr, true≢false, arith, filter_map, replicate}
+use Rattle.rdm_agent.proofs.Common.{refl, sym, ap, ◌∙◌, subst, inr, true≢false, arith, filter_map, replicate}
 use Rattle.rdm_agent.proofs.Common.{AllByRecursion, length_push, has, IsDevice, Heard, Seen, Unmute, muted_uid}
-use Rattle.rdm_agent.proofs.Common.{asks_range, muted_by, is_branch, UNMUTES}
+use Rattle.rdm_agent.proofs.Common.{asks_range, muted_by, is_branch, UNMUTES, none-some}
 use Rattle.rdm_agent.proofs.OneDevice.{NotFailed}
 use Rattle.rdm_agent.proofs.Pushes.{All-push, All-at}
 use Rattle.rdm_agent.proofs.Sets.{each_member}
@@ -57,7 +57,7 @@ unmuted known left x found s = record {
     tried = λ u muted. absurd (true≢false
         (sym muted ∙ ap (λ us. has us u) (none_read muted_by mutes_none x s.unmutes)));
     named = λ front back e whole u
-        mutes. absurd (none_some u (sym (mutes_none e (All-at IsUnmute x front back e s.unmutes whole)) ∙ mutes));
+        mutes. absurd (none-some u (sym (mutes_none e (All-at IsUnmute x front back e s.unmutes whole)) ∙ mutes));
   };
   no_branch = no_branches x s.unmutes;
   devices = subst (λ us. AllByRecursion IsDevice us) (sym s.left_is) s.devices;
@@ -65,6 +65,3 @@ unmuted known left x found s = record {
       (each_member (λ u. has known u ≡ true) known (λ u here. here));
   others_muted = λ u here. inr (subst (λ us. has us u ≡ true) (sym s.left_is) here);
 }
-  where
-    none_some : (u : ℕ) → None ≡ Some u → ⊥
-    none_some u p = cc

@@ -2,6 +2,7 @@
 use Rattle.std.proofs.Common.{◌≡◌, ℕ, zero, suc, ◌<◌, List, [], ◌∷◌, ◌++◌, take, Option, Some, None, refl, sym, ap, ◌∙◌}
 use Rattle.std.proofs.Common.{append_assoc, arith}
 use Rattle.std.proofs.lemmas.List.{append-nil}
+use Rattle.std.proofs.lemmas.Option.{none-some}
 use Rattle.std.specs.Prelude.{slice_get}
 use Rattle.rdm_join.specs.Result.{Joined, result_of, result_after, or_if_open, decides, decides_option, IsResult}
 use Rattle.rdm_join.specs.declared.verdict.Judged.{Judged}
@@ -18,12 +19,9 @@ record IsFirst (before vs : List Judged) (j : Joined) : Type 0 where
   here : decided_after before vs at ≡ Some j
   earlier : (i : ℕ) → i < at → decided_after before vs i ≡ None
 
-none_some : (j : Joined) → None ≡ Some j → ⊥
-none_some j h = cc
-
 -- the first position that decides is the result, and the other way round
 to_first : (before vs : List Judged) (j : Joined) → result_after before vs ≡ Some j → IsFirst before vs j
-to_first before [] j e = absurd (none_some j e)
+to_first before [] j e = absurd (none-some j e)
 to_first before (v ∷ vs) j e = by_head (decides before v) refl e (to_first (before ++ v ∷ []) vs j)
   where
     by_head : (o : Option Joined) → decides before v ≡ o → or_if_open o (result_after (before ++ v ∷ []) vs) ≡ Some j
@@ -42,7 +40,7 @@ to_first before (v ∷ vs) j e = by_head (decides before v) refl e (to_first (be
 
 from_first : (before vs : List Judged) (j : Joined) (n : ℕ) → decided_after before vs n ≡ Some j
     → ((i : ℕ) → i < n → decided_after before vs i ≡ None) → result_after before vs ≡ Some j
-from_first before [] j n here earlier = absurd (none_some j here)
+from_first before [] j n here earlier = absurd (none-some j here)
 from_first before (v ∷ vs) j zero here earlier = rw here refl
 from_first before (v ∷ vs) j (suc n) here earlier =
     rw (earlier 0 (omega arith)) (from_first (before ++ v ∷ []) vs j n here (λ i below. earlier (suc i) (omega arith)))
