@@ -2,8 +2,8 @@
 pub use Rattle.std.proofs.Common.{refl, ◌≡◌, List, [], ℕ, ◌∷◌, Some, ◌++◌, ap, sym, ◌∙◌, arith, false, true, inr, inl}
 pub use Rattle.std.proofs.Common.{None, length, slice_get, ◌≤◌, Option, Bool, ◌<◌, ◌+◌, suc, append-nil, zero}
 pub use Rattle.std.proofs.Common.{append_assoc, drop, take, if◌then◌else◌, map, filter, filter_map, ◌-◌, length-append}
-pub use Rattle.std.proofs.Common.{fold, length-drop, cond, get_or, slice_index, subst, zip, add-one, add-zero, not}
-pub use Rattle.std.proofs.Common.{one-add, replicate, suc-add, sum, true≢false, zero-add, ◌%◌, ◌^◌}
+pub use Rattle.std.proofs.Common.{fold, length-drop, cond, get_or, subst, zip, add-one, add-zero, not}
+pub use Rattle.std.proofs.Common.{one-add, replicate, suc-add, sum, true≢false, zero-add, ◌%◌}
 pub use Rattle.std.proofs.lemmas.Bool.{false≢true, cases_Bool, eqb-true, eq-eqb, cases_lt, leb-false, or_parts, le-leb}
 pub use Rattle.std.proofs.lemmas.Bool.{leb-true, lt-leb, ne_eqb, or_cases, or_left, or_right}
 pub use Rattle.std.proofs.lemmas.List.{length_push, map-append, take-append-drop, append_cancel_left, length-map}
@@ -84,12 +84,12 @@ pub use Rattle.rdm_log.specs.log.Runs.{if_without_fault, reported_devices, run_d
 unfoldable pub use Rattle.rdm_log.specs.log.Runs.{has_begun, run_exchanges, last_run, entries_before_run}
 unfoldable pub use Rattle.rdm_log.specs.log.Runs.{last_run_without_fault}
 pub use Rattle.rdm_log.specs.promises.Blocks.{CloseAddsWhere, join_refused, SwitchAdds, WorkAdds, WorkLogs}
-pub use Rattle.rdm_log.specs.promises.Blocks.{work_accepted, work_refused, IsOldest, IsWithResults, is_result}
-pub use Rattle.rdm_log.specs.promises.Discoveries.{numbers_asked, AnswersReportTheLine, HasMostDiscoveries}
+pub use Rattle.rdm_log.specs.promises.Blocks.{work_accepted, work_refused, IsOldest, IsWithResults}
+pub use Rattle.rdm_log.specs.promises.Discoveries.{numbers_asked, AnswersReportTheLine}
 pub use Rattle.rdm_log.specs.promises.EventsHeadline.{AnsweredAt, IsOwnOutcome, ReportsTheLine, brings, answer_to}
 pub use Rattle.rdm_log.specs.promises.EventsHeadline.{HasMost}
 pub use Rattle.rdm_log.specs.promises.Explains.{Explains, Adds, IsAnswered}
-pub use Rattle.rdm_log.specs.promises.Headline.{numbers_accepted, Begins, IsFull}
+pub use Rattle.rdm_log.specs.promises.Headline.{numbers_accepted, Begins}
 pub use Rattle.rdm_log.specs.promises.InBound.{AnswersInBound, FaultNeedsClose, IsCalmRun, IsNoisyRun, IsCalmOrNoisy}
 pub use Rattle.rdm_log.specs.promises.Outcomes.{outcome_of, OutcomeValue, completion_of, discovered, outcome_value}
 pub use Rattle.rdm_log.specs.promises.Outcomes.{unboxed}

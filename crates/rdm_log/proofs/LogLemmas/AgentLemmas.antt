@@ -3,18 +3,16 @@ use Rattle.rdm_log.proofs.Common.{◌≡◌, ℕ, ◌<◌, ◌≤◌, Bool, true
 use Rattle.rdm_log.proofs.Common.{sym, ap, ◌∙◌, subst, inl, inr, filter_map, arith, ◌≢◌, ◌⊎◌, AllByRecursion, cases_lt}
 use Rattle.rdm_log.proofs.Common.{false≢true, none-some, uids_of, device_with, Device, Seen, Failed, IsReport}
 use Rattle.rdm_log.proofs.Common.{devices_in, Certificate, AgentState, Runs, next_of, Kind, AgentFault}
-use Rattle.rdm_log.proofs.Common.{Exhausted, LineFailed, Aborted, Opening, Entry, is_closed, run_kind, known_at_run}
+use Rattle.rdm_log.proofs.Common.{Opening, Entry, is_closed, run_kind, known_at_run}
 use Rattle.rdm_log.proofs.Common.{run_exchanges, run_devices, reported_devices, GoesOn}
 use Rattle.rdm_agent.specs.Run.{asked_by}
-use Rattle.rdm_agent.specs.Cause.{IsCorruptBy, Cause}
+use Rattle.rdm_agent.specs.Cause.{IsCorruptBy}
 use Rattle.rdm_agent.specs.Machine.{start_by, fault_of}
 use Rattle.rdm_agent.specs.Calls.{next_op, HasRunBy}
-use Rattle.rdm_agent.specs.declared.search.Search.{Search}
 use Rattle.rdm_agent.specs.declared.op.Op.TheVariants.{End}
-use Rattle.rdm_agent.specs.declared.fault.AgentFault.TheVariants.{Corrupt, TooMany}
 use Rattle.rdm_agent.proofs.Runs.{goes_on_soundly_by, all_reported_by, asks_in_order_by, ends_at_budget_by}
 use Rattle.rdm_agent.proofs.CertificateEnds.{certificate_ends_by}
-use Rattle.rdm_agent.proofs.CallLemmas.{next_asked, runs-own, fault-certified, fault-caused, found-report}
+use Rattle.rdm_agent.proofs.CallLemmas.{next_asked, runs-own, fault-certified, fault-caused, found-report, cause-more}
 use Rattle.rdm_log.specs.log.Due.{IsDone}
 use Rattle.rdm_log.specs.log.MayAnswer.{IsAborted, Shows}
 
@@ -83,14 +81,6 @@ agent_found o h r a aborted s =
     report_devices (run_exchanges r h) a.found (found-report a _ _ _ aborted (run_exchanges r h) s)
 
 -- what an agent that has ended shows
-another_abort : (search : Search) (budget : ℕ) (P Q : Type 0) (f : AgentFault) (x : List Seen) → (P → Q)
-    → Cause search budget P f x → Cause search budget Q f x
-another_abort search budget P Q (Corrupt u) x more cause = cause
-another_abort search budget P Q TooMany x more cause = cause
-another_abort search budget P Q Exhausted x more cause = cause
-another_abort search budget P Q LineFailed x more cause = cause
-another_abort search budget P Q Aborted x more cause = (more cause.0, cause.1)
-
 not_done : (o : Opening) (h : List Entry) (r : ℕ) (a : AgentState) (aborted : Bool) (f : AgentFault)
     → HasRunBy o.search (run_kind r h) (known_at_run o r h) o.budget aborted (run_exchanges r h) a
     → fault_of a.phase ≡ Some f → IsDone o h r → ⊥
@@ -114,7 +104,7 @@ agent_shows o h r a aborted s closed end = by_fault (fault_of a.phase) refl
         subst (λ ds. Certificate (run_kind r h) (known_at_run o r h) (run_exchanges r h) ds)
         (agent_found o h r a aborted s) (fault-certified a end None (sym is) _ _ _ aborted (run_exchanges r h) s)
     by_fault (Some f) is = (
-      another_abort o.search o.budget (aborted ≡ true) (IsAborted o h r) f (run_exchanges r h) (aborts aborted s closed)
+      cause-more o.search o.budget (aborted ≡ true) (IsAborted o h r) f (run_exchanges r h) (aborts aborted s closed)
           (fault-caused a end (Some f) (sym is) _ _ _ aborted (run_exchanges r h) s),
       not_done o h r a aborted f s is,
     )

@@ -1,7 +1,7 @@
 -- A log that grows.
-use Rattle.rdm_log.proofs.Common.{◌≡◌, List, [], ◌∷◌, ◌++◌, refl, EachAfter, EachAfter-push, Opening, Entry, accepts}
+use Rattle.rdm_log.proofs.Common.{List, [], ◌∷◌, ◌++◌, refl, EachAfter, EachAfter-push, Opening, Entry, accepts}
 use Rattle.rdm_log.proofs.Common.{asks, sends, finishes, answers, last_run, MayFollow, Legal}
-use Rattle.rdm_wire.proofs.EachAfterLemmas.{EachAfter-front}
+use Rattle.rdm_wire.proofs.EachAfterLemmas.{EachAfter-front, no_element}
 
 pub pushed : (o : Opening) (h : List Entry) (e : Entry) → EachAfter (MayFollow o) h → MayFollow o h e
     → EachAfter (MayFollow o) (h ++ e ∷ [])
@@ -9,10 +9,6 @@ pushed o h e all last = EachAfter-push (MayFollow o) h e all last
 
 pub front : (o : Opening) (h more : List Entry) → EachAfter (MayFollow o) (h ++ more) → EachAfter (MayFollow o) h
 front o h more all = EachAfter-front (MayFollow o) h more all
-
-pub no_element : {X : Type 0} (front back : List X) (x : X) → [] ≡ front ++ x ∷ back → ⊥
-no_element [] back x w = cc
-no_element (y ∷ front) back x w = cc
 
 pub empty : (o : Opening) → Legal o []
 unfolding accepts asks sends finishes answers last_run

@@ -1,8 +1,7 @@
 -- Elements of a list by their indices, and lists with one more at the end.
 use Rattle.rdm_log.proofs.Common.{◌≡◌, ℕ, zero, suc, ◌+◌, List, [], ◌∷◌, ◌++◌, length, drop, Option, Some, None}
-use Rattle.rdm_log.proofs.Common.{slice_get, ◌<◌, ◌≤◌, Bool, filter, refl, ap, ◌∙◌, zero-add, suc-add, append-nil, inl}
+use Rattle.rdm_log.proofs.Common.{slice_get, ◌<◌, ◌≤◌, Bool, filter, refl, ap, zero-add, suc-add, inl}
 use Rattle.rdm_log.proofs.Common.{inr, arith, filter_map, ◌⊎◌, ◌≢◌, AllByRecursion, cons_option, cases_lt}
-use Rattle.rdm_log.proofs.Common.{filter_map-append}
 use Rattle.std.specs.Prelude.{zip}
 use Rattle.std.proofs.lemmas.List.{drop_all}
 
@@ -68,15 +67,6 @@ zip_both_more [] [] x y e = refl
 zip_both_more [] (z ∷ ys) x y e = absurd (omega arith)
 zip_both_more (z ∷ xs) [] x y e = absurd (omega arith)
 zip_both_more (z ∷ xs) (w ∷ ys) x y e = ap (λ l. (z, w) ∷ l) (zip_both_more xs ys x y (omega arith))
-
--- what a last element adds to a projection
-pub filter_map_none : {X Y : Type 0} (f : X → Option Y) (xs : List X) (x : X) → f x ≡ None
-    → filter_map f (xs ++ x ∷ []) ≡ filter_map f xs
-filter_map_none f xs x e = filter_map-append f xs (x ∷ []) ∙ rw e (append-nil (filter_map f xs))
-
-pub filter_map_some : {X Y : Type 0} (f : X → Option Y) (xs : List X) (x : X) (y : Y) → f x ≡ Some y
-    → filter_map f (xs ++ x ∷ []) ≡ filter_map f xs ++ y ∷ []
-filter_map_some f xs x y e = filter_map-append f xs (x ∷ []) ∙ rw e refl
 
 -- what holds at each index of a list and of one more at its end
 pub each_index_push : {X : Type 0} (P : ℕ → X → Type 0) (xs : List X) (x : X)

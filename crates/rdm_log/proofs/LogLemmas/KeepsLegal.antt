@@ -14,7 +14,7 @@ use Rattle.rdm_agent.specs.declared.search.Search.TheVariants.{Steady, Quick}
 use Rattle.rdm_log.specs.declared.entry.Owner.TheVariants as owners
 use Rattle.rdm_log.specs.log.Refusals.{IsRefused}
 use Rattle.rdm_log.specs.log.MaySend.{NoSend}
-use Rattle.rdm_log.proofs.LogLemmas.Grows.{pushed, no_element}
+use Rattle.rdm_log.proofs.LogLemmas.Grows.{pushed}
 use Rattle.rdm_log.proofs.LogLemmas.Indices.{all_at, all_from_indices, each_index_push}
 use Rattle.rdm_log.proofs.LogLemmas.PushLemmas.{unfinished_accept, SameRequests, same_after, accepts-push}
 use Rattle.rdm_log.proofs.LogLemmas.PushLemmas.{finishes-push, sends-push, cames-push, asks-push, answers-push}
@@ -27,6 +27,7 @@ use Rattle.rdm_log.proofs.LogLemmas.RunFacts.{RunFacts, run_facts, open_is, afte
 use Rattle.rdm_log.specs.declared.work.Work.TheVariants as works
 use Rattle.rdm_log.proofs.LogLemmas.RefusalLemmas.{work_passes}
 use Rattle.rdm_log.proofs.LogLemmas.LegalFacts.{sent_evenly, LogFacts, legal_facts, unaccepted_unsent}
+use Rattle.rdm_wire.proofs.EachAfterLemmas.{no_element}
 
 -- nothing is due: each unfinished request's result is open
 pub due_at : (o : Opening) (h : List Entry) → NothingDue o h → (i : ℕ) (a : Accepted)

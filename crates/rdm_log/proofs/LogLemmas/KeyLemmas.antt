@@ -1,6 +1,6 @@
 -- Which keys are open after one was opened or closed.
 use Rattle.rdm_log.proofs.Common.{◌≡◌, ℕ, Bool, true, false, List, [], ◌∷◌, ◌++◌, drop, refl, sym, ap, ◌∙◌, ◌⊎◌}
-use Rattle.rdm_log.proofs.Common.{inl, inr}
+use Rattle.rdm_log.proofs.Common.{inl, inr, or_left}
 use Rattle.rdm_log.proofs.Common.{◌==◌, ◌&&◌, ◌||◌, not, cond, list_any-append, cases_Bool, eq-eqb}
 use Rattle.rdm_log.proofs.Common.{eqb-true, false≢true, length, if◌then◌else◌}
 use Rattle.std.specs.Prelude.{nat_lt}
@@ -8,7 +8,7 @@ use Rattle.rdm_log.specs.declared.broken.AnswerKey.{AnswerKey}
 use Rattle.rdm_log.specs.declared.broken.TheConstants.{MOST_BROKEN}
 use Rattle.rdm_log.specs.log.BrokenKeys.{BrokenKeys, same_key, lists, without, is_open, listed_open, listed_closed}
 use Rattle.rdm_log.specs.log.BrokenKeys.{with_open, with_closed}
-use Rattle.std.proofs.lemmas.Bool.{and_parts}
+use Rattle.std.proofs.lemmas.Bool.{and_parts, or_parts}
 
 -- the same key is equal
 pub same_from : (j k : AnswerKey) → same_key j k ≡ true → j ≡ k
@@ -49,12 +49,8 @@ own_struck k (x ∷ ks) = by_test (same_key k x) refl (own_struck k ks)
 pub none_struck : (j k : AnswerKey) (ks : List AnswerKey) → lists j ks ≡ false → lists j (without k ks) ≡ false
 none_struck j k [] none = refl
 none_struck j k (x ∷ ks) none =
-    by_test (not (same_key k x)) (parts (same_key j x) (lists j ks) none) (λ rest. none_struck j k ks rest)
+    by_test (not (same_key k x)) (or_parts (same_key j x) (lists j ks) none) (λ rest. none_struck j k ks rest)
   where
-    parts : (a b : Bool) → (a || b) ≡ false → (a ≡ false) × (b ≡ false)
-    parts false b all = (refl, all)
-    parts true b all = absurd (false≢true (sym all))
-
     by_test : (b : Bool) → (same_key j x ≡ false) × (lists j ks ≡ false)
         → (lists j ks ≡ false → lists j (without k ks) ≡ false)
         → lists j (cond b (x ∷ without k ks) (without k ks)) ≡ false
@@ -83,9 +79,6 @@ or_last : (a b : Bool) → b ≡ true → (a || (b || false)) ≡ true
 or_last true b is = refl
 or_last false b is = rw is refl
 
-or_first : (a b : Bool) → a ≡ true → (a || b) ≡ true
-or_first a b is = rw is refl
-
 or_none : (a b : Bool) → b ≡ false → (a || (b || false)) ≡ a
 or_none true b is = refl
 or_none false b is = rw is refl
@@ -94,7 +87,7 @@ pub own_listed : (k : AnswerKey) (ks : List AnswerKey) → lists k (ks ++ k ∷ 
 own_listed k ks = list_any-append (same_key k) ks (k ∷ []) ∙ or_last (lists k ks) (same_key k k) (same_own k)
 
 pub still_listed : (j k : AnswerKey) (ks : List AnswerKey) → lists j ks ≡ true → lists j (ks ++ k ∷ []) ≡ true
-still_listed j k ks is = list_any-append (same_key j) ks (k ∷ []) ∙ or_first (lists j ks) (same_key j k || false) is
+still_listed j k ks is = list_any-append (same_key j) ks (k ∷ []) ∙ or_left (lists j ks) (same_key j k || false) is
 
 pub other_listed : (j k : AnswerKey) (ks : List AnswerKey) → same_key k j ≡ false
     → lists j (ks ++ k ∷ []) ≡ lists j ks

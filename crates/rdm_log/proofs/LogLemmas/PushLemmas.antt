@@ -9,7 +9,6 @@ use Rattle.rdm_log.proofs.Common.{unfinished, unanswered, awaits_after, closed_a
 use Rattle.std.proofs.lemmas.List.{drop-drop}
 use Rattle.rdm_log.specs.log.Entries.{join_of}
 use Rattle.rdm_log.specs.log.History.{paused_after}
-use Rattle.rdm_log.proofs.LogLemmas.Indices.{filter_map_none, filter_map_some}
 
 -- for two parts: what the first says, and then what the second says
 pub joins-append : (h k : List Entry) → joins (h ++ k) ≡ joins h ++ joins k
@@ -130,9 +129,6 @@ same_after h e accept finish send came waits = record {
 }
 
 -- the unfinished requests: one more at the end, or one fewer at the start
-pub unfinished_same : (h k : List Entry) → accepts k ≡ accepts h → finishes k ≡ finishes h → unfinished k ≡ unfinished h
-unfinished_same h k accept finish = rw (accept, finish) refl
-
 pub unfinished_accept : (h : List Entry) (c : ClientId) (n : ℕ) (request : Request)
     → length (finishes h) ≤ length (accepts h)
     → unfinished (h ++ Accept c n request ∷ []) ≡ unfinished h

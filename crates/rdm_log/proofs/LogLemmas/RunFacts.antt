@@ -18,7 +18,7 @@ use Rattle.rdm_log.proofs.LogLemmas.LegalFacts.{along, legal_facts, IsAwaited, I
 use Rattle.rdm_log.proofs.LogLemmas.RunLemmas.{not_sent, last_run_same, last_run_sent, has_begun_more, begun_stays}
 use Rattle.rdm_log.proofs.LogLemmas.RunLemmas.{begun_same, last_begun, open_run_same, run_exchanges_same}
 use Rattle.rdm_log.proofs.LogLemmas.RunLemmas.{run_exchanges_sent, run_exchanges_came_own, run_exchanges_came_other}
-use Rattle.rdm_log.proofs.LogLemmas.Grows.{no_element}
+use Rattle.rdm_wire.proofs.EachAfterLemmas.{no_element}
 
 -- the open run is the last one, and no Answer names it
 pub record IsOpen (h : List Entry) (r : ℕ) : Type 0 where

@@ -6,13 +6,14 @@ use Rattle.rdm_log.proofs.Common.{cases_Bool, false≢true, eq-eqb, or_parts, ma
 use Rattle.rdm_log.proofs.Common.{filter-append, none-some, same_Some, ArrayVec, Seen, LineEvent, Owner, Opening, Entry}
 use Rattle.rdm_log.proofs.Common.{Send, Came, Sending, OwnedExchange, traded_of, sending_of, came_of, answered_of, asks}
 use Rattle.rdm_log.proofs.Common.{answers, sends, cames, traded, is_run, sends_run, has_begun, entries_before_run}
-use Rattle.rdm_log.proofs.Common.{run_of_owner, last_run, unless_answered, open_run, asked_before, served}
+use Rattle.rdm_log.proofs.Common.{run_of_owner, last_run, unless_answered, open_run, asked_before, served, or_right}
 use Rattle.rdm_log.proofs.Common.{run_exchanges, run_frames, last_run_without_fault, devices_of, known_devices}
 use Rattle.std.specs.Prelude.{zip}
 use Rattle.rdm_log.specs.declared.entry.Owner.TheVariants as owners
 use Rattle.rdm_log.specs.log.Runs.{seen_of}
 use Rattle.rdm_log.proofs.LogLemmas.PushLemmas.{sends-push, cames-push, answers-push}
 use Rattle.rdm_log.proofs.LogLemmas.ExchangeLemmas.{IsUnanswered, traded_sent, traded_came}
+use Rattle.std.proofs.Math.Bool.{or-false}
 
 -- which run began last
 pub last_run_same : (h k : List Entry) → sends k ≡ sends h → last_run k ≡ last_run h
@@ -41,11 +42,7 @@ begun_stays r h k begun = list_any-append (sends_run r) h k ∙ rw begun refl
 
 pub begun_same : (r : ℕ) (h : List Entry) (e : Entry) → sends_run r e ≡ false
     → has_begun r (h ++ e ∷ []) ≡ has_begun r h
-begun_same r h e other = has_begun_more r h e ∙ rw other (or_false (has_begun r h))
-  where
-    or_false : (b : Bool) → (b || false) ≡ b
-    or_false true = refl
-    or_false false = refl
+begun_same r h e other = has_begun_more r h e ∙ rw other (or-false (has_begun r h))
 
 -- the entries before it began
 pub before_first-cons : {X : Type 0} (p : X → Bool) (x : X) (xs : List X)
@@ -85,10 +82,6 @@ from_sends : (r : ℕ) (first : Option ℕ) (ss : List Sending)
 from_sends r first [] e = inl e
 from_sends r first (s ∷ ss) e = by_owner s.owner (from_sends r (run_of_owner first s.owner) ss e)
   where
-    or_right : (b c : Bool) → c ≡ true → (b || c) ≡ true
-    or_right true c t = refl
-    or_right false c t = t
-
     by_owner : (owner : Owner) → (run_of_owner first owner ≡ Some r)
         ⊎ (list_any (λ (t : Sending). is_run r t.owner) ss ≡ true) → (first ≡ Some r)
         ⊎ ((is_run r owner || list_any (λ (t : Sending). is_run r t.owner) ss) ≡ true)

@@ -16,7 +16,7 @@ use Rattle.rdm_log.specs.log.Broken.{may_be_incomplete, broken_keys}
 unfoldable use Rattle.rdm_log.specs.log.Broken.{after_entries}
 use Rattle.rdm_log.specs.promises.Flags.{IsGetOf, BreaksOff, AnswersWhole, WholeWithin, BrokenWithin, FlagsHold}
 use Rattle.rdm_log.specs.promises.Flags.{IsLeftBroken, NeedsFlag}
-use Rattle.rdm_log.proofs.LogLemmas.Grows.{front as front_of, no_element}
+use Rattle.rdm_log.proofs.LogLemmas.Grows.{front as front_of}
 use Rattle.rdm_log.proofs.LogLemmas.LegalFacts.{legal_facts, unfinished_index, LogFacts}
 use Rattle.rdm_log.proofs.LogLemmas.BrokenLemmas.{after_entries-append, which, IsFinishOf, finish_number}
 use Rattle.rdm_log.proofs.LogLemmas.BrokenLemmas.{flag_of_new, flag_of_old, flagged_below, unchanged}
@@ -24,6 +24,8 @@ use Rattle.rdm_log.proofs.LogLemmas.KeyLemmas.{same_from, opens_own, opens_none_
 use Rattle.rdm_log.proofs.LogLemmas.KeyLemmas.{closes_own}
 use Rattle.rdm_log.proofs.LogLemmas.KeyLemmas.{opened_before, closed_before, inverted_of}
 use Rattle.std.proofs.lemmas.Bool.{and_parts}
+use Rattle.std.proofs.Math.Bool.{or-true}
+use Rattle.rdm_wire.proofs.EachAfterLemmas.{no_element}
 
 -- the request of a Finish is the oldest unfinished one
 key_is_first : (o : Opening) (h : List Entry) (n : ℕ) (status : Status) (len : ℕ) (key : AnswerKey)
@@ -191,11 +193,7 @@ flag_is o h front back n status len legal is flagged =
         ∙ or_last (list_any (λ m. n == m) (incomplete o front).flagged)
       where
         or_last : (c : Bool) → (c || (n == n || false)) ≡ true
-        or_last c = rw (eq-eqb n n refl) (or_true c)
-          where
-            or_true : (d : Bool) → (d || true) ≡ true
-            or_true true = refl
-            or_true false = refl
+        or_last c = rw (eq-eqb n n refl) (or-true c)
 
 -- a request that broke off wasn't read to the end
 not_whole : (status : Status) (head : Option ReplyHead) → breaks_off status ≡ true → is_whole status head ≡ false

@@ -6,7 +6,7 @@ use Rattle.rdm_log.specs.declared.entry.Entry.TheVariants as entries
 use Rattle.rdm_log.specs.promises.LogInBound.{InBound}
 use Rattle.rdm_log.proofs.PromiseLemmas.Promises.{promised}
 use Rattle.rdm_log.specs.promises.Promised.{Promised}
-use Rattle.rdm_log.proofs.LogLemmas.Grows.{no_element}
+use Rattle.rdm_wire.proofs.EachAfterLemmas.{no_element}
 
 -- what is asked of an entry after these
 abbrev BoundAt : LogState → List Entry → Entry → Type 0

@@ -1,7 +1,7 @@
 -- What a log has reported doesn't change as it grows.
-use Rattle.rdm_log.proofs.Common.{◌≡◌, ℕ, zero, suc, ◌+◌, ◌≤◌, ◌<◌, Bool, true, false, List, [], ◌∷◌, ◌++◌, length}
+use Rattle.rdm_log.proofs.Common.{◌≡◌, ℕ, zero, suc, ◌+◌, ◌≤◌, ◌<◌, true, List, [], ◌∷◌, ◌++◌, length}
 use Rattle.rdm_log.proofs.Common.{drop, fold, Option, Some, None, slice_get, refl, sym, ap, ◌∙◌, inl, inr, arith}
-use Rattle.rdm_log.proofs.Common.{filter_map, ◌⊎◌, ◌==◌, ◌||◌, option_and_then, AllByRecursion, list_any}
+use Rattle.rdm_log.proofs.Common.{filter_map, ◌⊎◌, ◌==◌, ◌||◌, option_and_then, AllByRecursion, list_any, or_right}
 use Rattle.rdm_log.proofs.Common.{false≢true, eq-eqb, none-some, same_Some, drop-append-le, recursion_from_All}
 use Rattle.rdm_log.proofs.Common.{filter_passes, EachAfter, AgentFault, Opening, Entry, Finish, Answer, Answered}
 use Rattle.rdm_log.proofs.Common.{answered_of, answers, is_answer_to, answers_to, collects_by, uncollected, is_answered}
@@ -26,11 +26,7 @@ pub some_at : (r : ℕ) (bs : List Answered) (j : ℕ) (b : Answered) → slice_
     → list_any (λ x. x.run == r) bs ≡ true
 some_at r [] j b at is = cc
 some_at r (x ∷ bs) zero b at is = let same : x ≡ b = cc in rw (same, eq-eqb b.run r is) refl
-some_at r (x ∷ bs) (suc j) b at is = or_right (x.run == r) (some_at r bs j b at is)
-  where
-    or_right : (c : Bool) {d : Bool} → d ≡ true → (c || d) ≡ true
-    or_right true t = refl
-    or_right false t = t
+some_at r (x ∷ bs) (suc j) b at is = or_right (x.run == r) _ (some_at r bs j b at is)
 
 pub named : (h : List Entry) (i n r : ℕ) (f : Option AgentFault) → slice_get h i ≡ Some (Answer n r f)
     → is_answered r h ≡ true
@@ -76,14 +72,10 @@ from_answers : (r : ℕ) (first : Option ℕ) (bs : List Answered) → fold if_w
 from_answers r first [] e = inl e
 from_answers r first (b ∷ bs) e = by_fault b.fault refl (from_answers r (if_without_fault first b) bs e)
   where
-    or_right : (c : Bool) {d : Bool} → d ≡ true → (c || d) ≡ true
-    or_right true t = refl
-    or_right false t = t
-
     by_fault : (f : Option AgentFault) → b.fault ≡ f → (if_without_fault first b ≡ Some r)
         ⊎ (list_any (λ x. x.run == r) bs ≡ true) → (first ≡ Some r)
         ⊎ ((b.run == r || list_any (λ x. x.run == r) bs) ≡ true)
-    by_fault f is (inr later) = inr (or_right (b.run == r) later)
+    by_fault f is (inr later) = inr (or_right (b.run == r) _ later)
     by_fault None is (inl here) = inr (rw (eq-eqb b.run r (same_Some b.run r (rw is at here))) refl)
     by_fault (Some fault) is (inl here) = inl (rw is at here)
 

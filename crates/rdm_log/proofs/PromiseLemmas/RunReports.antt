@@ -1,55 +1,19 @@
 -- The devices that exchanges report: the acknowledged ones, each as its first acknowledgement says it.
-use Rattle.rdm_log.proofs.Common.{◌≡◌, ℕ, true, false, List, [], ◌∷◌, Some, None, filter_map, take, refl, sym, ap, ◌∙◌}
-use Rattle.rdm_log.proofs.Common.{inl, inr, ◌⊎◌, ◌==◌, AllByRecursion, cons_option, cases_Bool, false≢true, eqb-true}
-use Rattle.rdm_log.proofs.Common.{has, uids_of, device_with, Device, Asked, Seen, Unmute, Branch, Mute, Failed, Silent}
-use Rattle.rdm_log.proofs.Common.{Acked, acked_in, devices_in, IsReport, reported_devices}
+use Rattle.rdm_log.proofs.Common.{◌≡◌, ℕ, true, false, List, [], ◌∷◌, Some, filter_map, take, refl, sym, ap, ◌∙◌}
+use Rattle.rdm_log.proofs.Common.{inl, inr, ◌⊎◌, ◌==◌, AllByRecursion, cases_Bool, false≢true, eqb-true}
+use Rattle.rdm_log.proofs.Common.{has, uids_of, device_with, Device, Seen}
+use Rattle.rdm_log.proofs.Common.{acked_in, devices_in, IsReport, reported_devices}
 use Rattle.rdm_wire.specs.Lists.{once}
 use Rattle.rdm_wire.specs.declared.uid_set.TheConstants.{MOST_DEVICES}
-use Rattle.rdm_wire.specs.Honest.{Heard}
-use Rattle.rdm_wire.specs.Honest.Asked.{Other}
-use Rattle.rdm_wire.specs.Honest.Heard.{One, Noise}
-use Rattle.rdm_agent.specs.Run.{acked_uid, acked_device, reported}
+use Rattle.rdm_agent.specs.Run.{reported}
 use Rattle.rdm_agent.proofs.Sets.{each_member, has-set_of, has-once, has-take}
+use Rattle.rdm_agent.proofs.FirstAcked.{uids-devices_in}
 
 -- a reported UID was acknowledged
 pub reported_acked : (x : List Seen) (u : ℕ) → has (reported x) u ≡ true → has (acked_in x) u ≡ true
 reported_acked x u is =
     sym (has-once (acked_in x) u)
     ∙ has-take MOST_DEVICES (once (acked_in x)) u (sym (has-set_of (take MOST_DEVICES (once (acked_in x))) u) ∙ is)
-
--- each acknowledgement says a device with its UID
-record SaysDevice (a : Asked) (h : Heard) : Type 0 where
-  device : Device
-  says : acked_device a h ≡ Some device
-  uid : acked_uid a h ≡ Some device.uid
-
-record SaysNone (a : Asked) (h : Heard) : Type 0 where
-  no_device : acked_device a h ≡ None
-  no_uid : acked_uid a h ≡ None
-
-said : (a : Asked) (h : Heard) → SaysDevice a h ⊎ SaysNone a h
-said (Mute u) (Acked ack) = inl (record {
-  device = record { uid = u; control = ack.control; binding = ack.binding };
-  says = refl;
-  uid = refl;
-})
-said (Mute u) Failed = inr (record { no_device = refl; no_uid = refl })
-said (Mute u) Silent = inr (record { no_device = refl; no_uid = refl })
-said (Mute u) (One v) = inr (record { no_device = refl; no_uid = refl })
-said (Mute u) Noise = inr (record { no_device = refl; no_uid = refl })
-said Unmute h = inr (record { no_device = refl; no_uid = refl })
-said (Branch lo hi) h = inr (record { no_device = refl; no_uid = refl })
-said Other h = inr (record { no_device = refl; no_uid = refl })
-
-devices_acked : (x : List Seen) → uids_of (devices_in x) ≡ acked_in x
-devices_acked [] = refl
-devices_acked (e ∷ x) = by_said (said e.asked e.heard) (devices_acked x)
-  where
-    by_said : SaysDevice e.asked e.heard ⊎ SaysNone e.asked e.heard → uids_of (devices_in x) ≡ acked_in x
-        → uids_of (cons_option (acked_device e.asked e.heard) (devices_in x))
-        ≡ cons_option (acked_uid e.asked e.heard) (acked_in x)
-    by_said (inl some) rest = rw (some.says, some.uid) (ap (λ l. some.device.uid ∷ l) rest)
-    by_said (inr none) rest = rw (none.no_device, none.no_uid) rest
 
 -- the first device with a UID that is there
 record IsWith (ds : List Device) (u : ℕ) : Type 0 where
@@ -84,7 +48,7 @@ firsts_of_uids ds (u ∷ us) all =
 all_there : (x : List Seen) → AllByRecursion (λ u. has (uids_of (devices_in x)) u ≡ true) (reported x)
 all_there x =
     each_member (λ u. has (uids_of (devices_in x)) u ≡ true) (reported x)
-    (λ u is. rw (devices_acked x) (reported_acked x u is))
+    (λ u is. rw (uids-devices_in x) (reported_acked x u is))
 
 pub reports : (x : List Seen) → IsReport x (reported_devices x)
 reports x = record {

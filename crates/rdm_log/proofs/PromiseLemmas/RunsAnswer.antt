@@ -1,6 +1,6 @@
 -- One run answers the discoveries that were asked for before it began, all alike.
-use Rattle.rdm_log.proofs.Common.{◌≡◌, ℕ, ◌+◌, Bool, true, false, List, [], ◌∷◌, ◌++◌, length, Option, Some, slice_get}
-use Rattle.rdm_log.proofs.Common.{refl, sym, ap, ◌∙◌, inl, inr, append_assoc, append-nil, ◌⊎◌, ◌≢◌, ◌==◌, ◌||◌}
+use Rattle.rdm_log.proofs.Common.{◌≡◌, ℕ, ◌+◌, true, false, List, [], ◌∷◌, ◌++◌, length, Option, Some, slice_get}
+use Rattle.rdm_log.proofs.Common.{refl, sym, ap, ◌∙◌, inl, inr, append_assoc, append-nil, ◌⊎◌, ◌≢◌, ◌==◌}
 use Rattle.rdm_log.proofs.Common.{AllByRecursion, Contains, list_any, cases_Bool, false≢true, eqb-true, eq-eqb}
 use Rattle.rdm_log.proofs.Common.{slice_get-map, slice_get-get_or, list_any-append, list_any_at, EachAfter, Device}
 use Rattle.rdm_log.proofs.Common.{AgentFault, Owner, Opening, Entry, Send, Came, Answer, AskedDiscovery, Answered}
@@ -23,6 +23,7 @@ use Rattle.rdm_log.proofs.LogLemmas.RunLemmas.{run_exchanges_came_other}
 use Rattle.rdm_log.proofs.LogLemmas.RunFacts.{run_facts, open_is, any_from_index}
 use Rattle.rdm_log.proofs.PromiseLemmas.OneRunServes.{served_by_one}
 use Rattle.rdm_log.proofs.PromiseLemmas.StableResults.{contains_from_get}
+use Rattle.std.proofs.Math.Bool.{or-true}
 
 -- an Answer's run has begun
 pub named_begun : (o : Opening) (h : List Entry) (n r : ℕ) (fault : Option AgentFault) → MayAnswer o h n r fault → r ≢ 0
@@ -78,11 +79,7 @@ named_by h n r fault =
     let b : Answered = record { number = n; run = r; fault = fault } in
     rw (answers-push h (Answer n r fault))
     (list_any-append (λ x. x.run == r) (answers h) (b ∷ [])
-    ∙ rw (eq-eqb r r refl) (or_true (list_any (λ x. x.run == r) (answers h))))
-  where
-    or_true : (c : Bool) → (c || true) ≡ true
-    or_true true = refl
-    or_true false = refl
+    ∙ rw (eq-eqb r r refl) (or-true (list_any (λ x. x.run == r) (answers h))))
 
 pub ended : (o : Opening) (h : List Entry) → EachAfter (MayFollow o) h
     → (before back : List Entry) (n r : ℕ) (fault : Option AgentFault) → h ≡ before ++ Answer n r fault ∷ back
