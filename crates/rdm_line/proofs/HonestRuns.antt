@@ -7,6 +7,7 @@ use Rattle.std.specs.List.{AllByRecursion}
 use Rattle.std.proofs.lemmas.Bool.{or_cases, and_parts, cases_Bool, leb-true, ltb-true, lt-ltb, le-leb}
 use Rattle.std.proofs.lemmas.List.{length-map}
 use Rattle.std.proofs.lemmas.List.Folds.{list_any-append}
+use Rattle.std.proofs.lemmas.Option.{same_Some}
 use Rattle.rdm_wire.specs.Uid.{has, IsDeviceSet}
 use Rattle.rdm_wire.specs.Honest.{LineState, before_run}
 use Rattle.rdm_wire.specs.HonestOver.{ComeAndLeave, ChainOver, HonestOver}
@@ -113,12 +114,9 @@ came_by : (ds : List SceneDevice) (i u from : ℕ) → IsScene ds → has (prese
 came_by ds i u from scene here f =
     let found = found_of ds i u scene here in
     let at = device_at_is i u ds found.0 scene found.1 in
-    let is : found.0.from ≡ from = same_some _ _ (sym (ap (option_map (λ (e : SceneDevice). e.from)) at.found) ∙ f) in
+    let is : found.0.from ≡ from = same_Some _ _ (sym (ap (option_map (λ (e : SceneDevice). e.from)) at.found) ∙ f) in
     let early : found.0.from ≤ i = leb-true found.0.from i (and_parts (nat_le found.0.from i) _ at.present).0 in
     omega arith
-  where
-    same_some : (a b : ℕ) → Some a ≡ Some b → a ≡ b
-    same_some a b h = cc
 
 moves : (done : List Step) (s : SimState) (k : ℕ) (earlier last : List ℕ) (ls : LineState) → IsSoundState s
     → Tracks done s k earlier last ls

@@ -29,6 +29,7 @@ use Rattle.rdm_wire.proofs.CommandAsks.{asks_so}
 use Rattle.rdm_wire.proofs.Text.{text_read-of}
 use Rattle.rdm_wire.proofs.BranchLemmas.{branch_text_reads}
 use Rattle.rdm_wire.proofs.Acknowledged.{ack_read-of}
+use Rattle.rdm_wire.proofs.SetLemmas.{has-with_uid}
 use Rattle.rdm_join.specs.Exchange.{bytes_heard}
 use Rattle.rdm_join.specs.declared.event.LineEvent.TheVariants.{Reply}
 use Rattle.rdm_line.specs.Scenes.{IsSceneDevice, uids_of_scene, device_at}
@@ -37,7 +38,7 @@ use Rattle.rdm_line.specs.Sim.{answering, is_among, counted}
 use Rattle.rdm_line.specs.SimSteps.{Step, present_in, seen_in, LosesBranch, LosesMute}
 use Rattle.rdm_line.specs.declared.scene.SceneDevice.{SceneDevice}
 use Rattle.rdm_line.proofs.AnsweringLemmas.{reply_some}
-use Rattle.rdm_line.proofs.SoundLemmas.{IsDeviceAt, device_at_is, has-with_uid}
+use Rattle.rdm_line.proofs.SoundLemmas.{IsDeviceAt, device_at_is}
 use Rattle.rdm_line.proofs.PresenceLemmas.{present_set, present_is, due_is, muted_among}
 use Rattle.rdm_line.proofs.LeavesLemmas.{after_request}
 

@@ -9,7 +9,7 @@ use Rattle.std.specs.List.{AllByRecursion, insert}
 use Rattle.std.proofs.Math.ListN.{set}
 use Rattle.std.proofs.lemmas.Bool.{eqb-true, eqb-false, eq-eqb, ne_eqb, lt-ltb, le-ltb, ltb-true, ltb-false}
 use Rattle.rdm_wire.specs.Uid.{has, with_uid, IsDevice, IsAscending}
-use Rattle.rdm_wire.proofs.SetLemmas.{devices-with_uid}
+use Rattle.rdm_wire.proofs.SetLemmas.{devices-with_uid, above_more}
 use Rattle.rdm_line.specs.Parameters.{ParameterState, parameter_of, sent_of}
 use Rattle.rdm_line.specs.body.Parts.{AnswersPart, parameter_at}
 use Rattle.rdm_line.specs.Scenes.{IsScene, IsSceneDevice, uids_of_scene, with_scene_device, find_device, sent_by}
@@ -94,10 +94,6 @@ absent-above (d ∷ ds) u all =
       none = rw (ne_eqb d.device.uid u (omega arith)) rest.none;
       not_there = rw (ne_eqb u d.device.uid (omega arith)) rest.not_there;
     }
-
-above_more : (n m : ℕ) (us : List ℕ) → n < m → AllByRecursion (λ w. m < w) us → AllByRecursion (λ w. n < w) us
-above_more n m [] p all = tt
-above_more n m (v ∷ us) p all = let q : m < v = all.0 in (omega arith, above_more n m us p all.1)
 
 absent : (ds : List SceneDevice) (u : ℕ) → IsAscending (uids_of_scene ds) → has_at (index_in ds u) u ds ≡ false
     → IsAbsent ds u

@@ -6,8 +6,9 @@ use Rattle.std.specs.List.{AllByRecursion}
 use Rattle.std.proofs.lemmas.Bool.{eqb-true, eq-eqb, ne_eqb, or_cases, and_parts, cases_order, ltb-false, leb-true}
 use Rattle.std.proofs.Math.Bool.{or-true}
 use Rattle.std.proofs.lemmas.List.{length-map}
+use Rattle.std.proofs.lemmas.Option.{same_Some}
 use Rattle.rdm_wire.specs.Uid.{has, with_uid, IsDevice, IsAscending}
-use Rattle.rdm_wire.proofs.SetLemmas.{devices-with_uid}
+use Rattle.rdm_wire.proofs.SetLemmas.{devices-with_uid, has-with_uid}
 use Rattle.rdm_line.specs.Parameters.{sent_of}
 use Rattle.rdm_wire.specs.declared.uid_set.SetFull.{SetFull}
 use Rattle.rdm_line.specs.Scenes.{IsScene, IsSceneDevice, uids_of_scene, find_device, device_at, is_present, sent_by}
@@ -31,9 +32,6 @@ record IsFound (u : ℕ) (ds : List SceneDevice) (d : SceneDevice) : Type 0 wher
   there : has (uids_of_scene ds) u ≡ true
   of_scene : IsSceneDevice d
 
-some_is : {X : Type 0} (x y : X) → Some x ≡ Some y → x ≡ y
-some_is x y h = cc
-
 found_is : (ds : List SceneDevice) (u : ℕ) (d : SceneDevice) → AllByRecursion IsDevice (uids_of_scene ds)
     → AllByRecursion IsSceneDevice ds → find_device ds u ≡ Some d → IsFound u ds d
 found_is [] u d own each h = absurd (let wrong : ⊥ = cc in wrong)
@@ -42,7 +40,7 @@ found_is (e ∷ es) u d own each h = by_test (e.device.uid == u) refl (found_is 
     by_test : (t : Bool) → (e.device.uid == u) ≡ t → (find_device es u ≡ Some d → IsFound u es d) → IsFound u (e ∷ es) d
     by_test true is rest =
         let uid : e.device.uid ≡ u = eqb-true e.device.uid u is in
-        let same : e ≡ d = some_is e d (subst (λ t. cond t (Some e) (find_device es u) ≡ Some d) is h) in
+        let same : e ≡ d = same_Some e d (subst (λ t. cond t (Some e) (find_device es u) ≡ Some d) is h) in
         subst (IsFound u (e ∷ es)) same (record {
           uid = uid;
           own = subst IsDevice uid own.0;
@@ -65,7 +63,7 @@ device_at_is i u ds d scene h = by_option (find_device ds u) refl h
     by_test : (e : SceneDevice) → find_device ds u ≡ Some e → (t : Bool) → is_present i e ≡ t
         → cond t (Some e) None ≡ Some d → IsDeviceAt i u ds d
     by_test e is true here g =
-        let same : e ≡ d = some_is e d g in
+        let same : e ≡ d = same_Some e d g in
         let f = found_is ds u e scene.uids.devices scene.each is in
         subst (IsDeviceAt i u ds) same (record {
           uid = f.uid;
@@ -81,29 +79,6 @@ device_at_is i u ds d scene h = by_option (find_device ds u) refl h
         → option_and_then (λ e. cond (is_present i e) (Some e) None) o ≡ Some d → IsDeviceAt i u ds d
     by_option None is g = absurd (let wrong : ⊥ = cc in wrong)
     by_option (Some e) is g = by_test e is (is_present i e) refl g
-
--- a member of a set with one more is it or was there
-pub has-with_uid : (u : ℕ) (vs : List ℕ) (w : ℕ) → has (with_uid u vs) w ≡ ((w == u) || has vs w)
-has-with_uid u [] w = refl
-has-with_uid u (v ∷ vs) w = by_test (nat_lt u v) (u == v) refl (has-with_uid u vs w)
-  where
-    swapped : (a b c : Bool) → (a || (b || c)) ≡ (b || (a || c))
-    swapped true true c = refl
-    swapped true false c = refl
-    swapped false b c = refl
-
-    twice : (a b : Bool) → (a || b) ≡ (a || (a || b))
-    twice true b = refl
-    twice false b = refl
-
-    by_test : (t k : Bool) → (u == v) ≡ k → has (with_uid u vs) w ≡ ((w == u) || has vs w)
-        → has (cond t (u ∷ v ∷ vs) (cond k (v ∷ vs) (v ∷ with_uid u vs))) w ≡ ((w == u) || ((w == v) || has vs w))
-    by_test true k is rest = refl
-    by_test false true is rest =
-        let same : u ≡ v = eqb-true u v is in
-        subst (λ x. ((w == v) || has vs w) ≡ ((w == x) || ((w == v) || has vs w))) (sym same)
-        (twice (w == v) (has vs w))
-    by_test false false is rest = ap (λ b. (w == v) || b) rest ∙ swapped (w == v) (w == u) (has vs w)
 
 -- an ascending list is no longer than one with all its members
 above-member : (v : ℕ) (us : List ℕ) (u : ℕ) → AllByRecursion (λ w. v < w) us → has us u ≡ true → v < u
@@ -189,7 +164,7 @@ sound-muted u i d ds muted losses fails exchanges failures s at counted = record
     before v from same f =
         let found : Some d.from ≡ Some from = sym (ap (option_map (λ (e : SceneDevice). e.from)) at.found)
         ∙ ap (from_of ds) (sym same) ∙ f in
-        let is : d.from ≡ from = some_is d.from from found in
+        let is : d.from ≡ from = same_Some d.from from found in
         let few : d.from ≤ 1000000000 = at.of_scene.from in
         let here : d.from ≤ i = leb-true d.from i (and_parts (nat_le d.from i) _ at.present).0 in
         elim (is_next i exchanges counted) [
