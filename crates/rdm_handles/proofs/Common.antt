@@ -1,6 +1,6 @@
 -- The names that many proofs here cite, passed on from one place. Declares nothing.
-pub use Rattle.std.proofs.Common.{◌≡◌, ℕ, Bool, List, length, Option, Some, None, refl, ap, sym, ◌∙◌, ◌^◌, T, ltb}
-pub use Rattle.std.proofs.Common.{eq-eqb, [], ◌∷◌, ◌++◌, subst, lit<, ◌<◌, ◌≤◌, take, map, arith, true, false, ◌&&◌}
+pub use Rattle.std.proofs.Common.{◌≡◌, ℕ, Bool, List, Option, Some, None, refl, ap, sym, ◌∙◌, ◌^◌, T, ltb}
+pub use Rattle.std.proofs.Common.{eq-eqb, [], ◌∷◌, ◌++◌, subst, lit<, ◌<◌, arith, true, false, ◌&&◌}
 pub use Rattle.std.proofs.Common.{◌==◌, true-eqb}
 pub use Rattle.rdm_log.specs.declared.entry.Opening.{Opening}
 pub use Rattle.rdm_log.specs.declared.entry.Entry.{Entry}
@@ -34,7 +34,6 @@ pub use Rattle.std.proofs.raw_atomic.Walks.{proved_at, leaves, proved}
 pub use Rattle.std_alloc.specs.Box.Ownership.{box_owns}
 pub use Rattle.rdm_handles.specs.Owned.{frees}
 pub use Rattle.rdm_handles.specs.declared.handle.Handle.{Handle}
-pub use Rattle.rdm_handles.specs.Forms.{form_of_device}
 pub use denote.Builtin.{RawPtr, bool, u32}
 pub use denote.Laws.{shows}
 pub use denote.Struct.Struct.{within}
@@ -42,8 +41,6 @@ pub use denote.Struct.Owning.{shape}
 pub use Rattle.core.proofs.cell.Inside.{Good}
 pub use Rattle.rdm_log.specs.log.LogState.{LogState}
 pub use Rattle.rdm_log.specs.promises.Outcomes.{request_outcome}
-pub use Rattle.rdm_queue.specs.declared.oldest.Oldest.{Oldest}
-pub use Rattle.rdm_queue.specs.promises.Oldest.{outcome_shown}
 pub use base.Fraction.{full_share}
 pub use denote.Ref.{MutRef, mut_vals, mut_Tells}
 pub use mir.MapTy.{inst_fn}
