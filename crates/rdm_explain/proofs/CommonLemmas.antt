@@ -1,5 +1,5 @@
 -- Lists, results and orders.
-use Rattle.std.proofs.Common.{◌≡◌, List, ◌∷◌, Bool, true, false, refl, subst, slice_get, IfSome, Result, Ok, Err, IfOk}
+use Rattle.std.proofs.Common.{◌≡◌, List, ◌∷◌, subst, slice_get, IfSome, Result, Ok, Err, IfOk}
 
 -- what holds of a result's value
 pub if_ok : {X E : Type 0} (P Q : X → Type 0) (r : Result X E) → ((x : X) → P x → Q x) → IfOk r P → IfOk r Q
@@ -10,8 +10,3 @@ if_ok P Q (Err e) follows is = is
 pub first_is : {X : Type 0} (P : X → Type 0) (xs : List X) (x : X) (rest : List X) → xs ≡ x ∷ rest
     → IfSome (slice_get xs 0) P → P x
 first_is P xs x rest is first = subst (λ l. IfSome (slice_get l 0) P) is first
-
--- what is false if it can't be true
-pub false_unless : (b : Bool) → (b ≡ true → ⊥) → b ≡ false
-false_unless true never = absurd (never refl)
-false_unless false never = refl

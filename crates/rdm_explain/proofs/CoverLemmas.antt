@@ -6,6 +6,7 @@ use Rattle.std.specs.List.{AllByRecursion}
 use Rattle.std.proofs.lemmas.List.Elements.{filter_map-append}
 use Rattle.std.proofs.lemmas.List.Folds.{list_any-append}
 use Rattle.std.proofs.lemmas.Bool.{eqb-true, eq-eqb, or_cases, and_parts, and_from, leb-true, leb-false, le-leb}
+use Rattle.std.proofs.lemmas.Bool.{or_left, or_right}
 use Rattle.rdm_wire.specs.Uid.{has, is_within}
 use Rattle.rdm_wire.specs.Honest.{Asked, Heard, Seen}
 use Rattle.rdm_wire.specs.Honest.Asked.{Unmute, Branch, Mute, Other}
@@ -91,15 +92,8 @@ acked_push x e u =
     ap (λ l. has l u) (filter_map-append acked_by x (e ∷ []))
     ∙ list_any-append (λ v. u == v) (acked_in x) (acked_in (e ∷ []))
 
-or_first : (a b : Bool) → a ≡ true → (a || b) ≡ true
-or_first a b e = rw e refl
-
-or_second : (a b : Bool) → b ≡ true → (a || b) ≡ true
-or_second true b e = refl
-or_second false b e = e
-
 covered_more : (x : List Seen) (e : Seen) (u : ℕ) → IsCovered x u → IsCovered (x ++ e ∷ []) u
-covered_more x e u (inl acked) = inl (acked_push x e u ∙ or_first _ _ acked)
+covered_more x e u (inl acked) = inl (acked_push x e u ∙ or_left _ _ acked)
 covered_more x e u (inr c) = inr (record {
   lo = c.lo;
   hi = c.hi;
@@ -197,8 +191,8 @@ acked_step x e v c never acked says =
     by_parts u (inl before) = covered_more x e u (says.sound u before)
     by_parts u (inr (inr none)) = absurd none
     by_parts u (inr (inl i)) =
-        inl (acked_push x e u ∙ or_second (has (acked_in x) u) _
-        (ap (λ l. has l u) acked ∙ or_first (u == v) false (eq-eqb u v (same u i))))
+        inl (acked_push x e u ∙ or_right (has (acked_in x) u) _
+        (ap (λ l. has l u) acked ∙ or_left (u == v) false (eq-eqb u v (same u i))))
 
 -- a silent branch
 abbrev silence : ℕ → ℕ → Seen

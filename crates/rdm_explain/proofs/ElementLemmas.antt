@@ -1,11 +1,12 @@
 -- The first element of a list without something.
 use Rattle.std.proofs.Common.{◌≡◌, ℕ, ◌+◌, ◌<◌, ◌≤◌, Bool, true, false, ◌&&◌, ◌||◌, not, List, [], ◌∷◌, ◌++◌, Option}
-use Rattle.std.proofs.Common.{Some, None, append_assoc, refl, sym, ap, ◌∙◌, subst, inl, inr, true≢false, arith, rules}
+use Rattle.std.proofs.Common.{Some, None, append_assoc, refl, sym, ap, ◌∙◌, subst, inl, inr, true≢false, arith}
 use Rattle.std.proofs.Common.{take, drop, length, get_or}
 use Rattle.std.specs.Prelude.{◌==◌, if◌then◌else◌}
 use Rattle.std.specs.List.{AllByRecursion}
 use Rattle.std.proofs.lemmas.List.{take_more, drop_more, take-append-drop, map-append}
-use Rattle.std.proofs.lemmas.Bool.{eqb-true, or_cases}
+use Rattle.std.proofs.lemmas.Bool.{eqb-true, or_cases, false_from_ne_true, eq-eqb}
+use Rattle.std.proofs.Math.Bool.{or-true, or-false}
 use Rattle.rdm_wire.specs.Uid.{has, IsAscending, set_of}
 use Rattle.rdm_wire.specs.Devices.{uids_of, device_with}
 use Rattle.rdm_wire.specs.declared.device.Device.{Device}
@@ -13,7 +14,6 @@ use Rattle.rdm_agent.specs.Run.{acked_in}
 use Rattle.rdm_agent.proofs.Members.{member}
 use Rattle.rdm_agent.proofs.Pushes.{All-push}
 use Rattle.rdm_agent.proofs.Sets.{same_members, ascending-set_of, has-set_of}
-use Rattle.rdm_explain.proofs.CommonLemmas.{false_unless}
 use Rattle.rdm_explain.specs.Certificates.{IsFirstElementWithout, FirstMisreported}
 use Rattle.rdm_explain.specs.declared.exchange.Exchange.{Exchange}
 use Rattle.rdm_explain.specs.Exchanges.{seen_all}
@@ -52,15 +52,8 @@ no_less f (v ∷ front) back u w asc all h fails =
     ]
 
 pub has_middle : (front back : List ℕ) (u : ℕ) → has (front ++ u ∷ back) u ≡ true
-has_middle [] back u = ap (λ b. b || has back u) (is u)
-  where
-    is : (v : ℕ) → (v == v) ≡ true
-    is v = search rules
-has_middle (v ∷ front) back u = ap (λ b. (u == v) || b) (has_middle front back u) ∙ or_true (u == v)
-  where
-    or_true : (b : Bool) → (b || true) ≡ true
-    or_true true = refl
-    or_true false = refl
+has_middle [] back u = ap (λ b. b || has back u) (eq-eqb u u refl)
+has_middle (v ∷ front) back u = ap (λ b. (u == v) || b) (has_middle front back u) ∙ or-true (u == v)
 
 -- each element of a list is one of the list
 pub own_elements : (us vs : List ℕ) → AllByRecursion (λ v. has (us ++ vs) v ≡ true) vs
@@ -91,7 +84,7 @@ pub least_other : (f : ℕ → Bool) (ds : List Device) (i : ℕ) (d : Device) �
 least_other f ds i d within read asc all fails = record {
   here = both_true (has (uids_of ds) d.uid) (f d.uid)
       (subst (λ l. has l d.uid ≡ true) (sym uids) (has_middle front back d.uid)) fails;
-  before = λ v less. false_unless (has (uids_of ds) v && not (f v)) (λ passes.
+  before = λ v less. false_from_ne_true (has (uids_of ds) v && not (f v)) (λ passes.
       let both = both_parts (has (uids_of ds) v) (f v) passes in
       let more : d.uid ≤ v = no_less f front back d.uid v (subst IsAscending uids asc) (uids_tested f (take i ds) all)
       (subst (λ l. has l v ≡ true) uids both.0) both.1 in
@@ -111,7 +104,7 @@ least_other f ds i d within read asc all fails = record {
 
 none_fails : (f : ℕ → Bool) (ds : List Device) → AllByRecursion (λ (e : Device). f e.uid ≡ true) ds → (u : ℕ)
     → (has (uids_of ds) u && not (f u)) ≡ false
-none_fails f ds all u = false_unless (has (uids_of ds) u && not (f u)) (λ passes.
+none_fails f ds all u = false_from_ne_true (has (uids_of ds) u && not (f u)) (λ passes.
     let both = both_parts (has (uids_of ds) u) (f u) passes in
     true≢false (sym (member (λ v. f v ≡ true) (uids_of ds) u (uids_tested f ds all) both.0) ∙ both.1))
 
@@ -180,10 +173,6 @@ with_append (d ∷ ds) es u = by_test (u == d.uid) (with_append ds es u)
 pub or_and : (a b c : Bool) → ((a && c) || (b && c)) ≡ ((a || b) && c)
 or_and true true true = refl
 or_and true true false = refl
-or_and true false c = or_same c
-  where
-    or_same : (c : Bool) → (c || false) ≡ c
-    or_same true = refl
-    or_same false = refl
+or_and true false c = or-false c
 or_and false true c = refl
 or_and false false c = refl

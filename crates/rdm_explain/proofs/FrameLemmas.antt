@@ -1,7 +1,6 @@
 -- What frames ask, by their bytes.
-use Rattle.std.proofs.Common.{◌≡◌, ℕ, ◌++◌, ◌<◌, ◌≤◌, Bool, true, false, cond, List, [], ◌∷◌, Option, Some, None, refl}
+use Rattle.std.proofs.Common.{◌≡◌, ℕ, ◌++◌, ◌<◌, ◌≤◌, Bool, false, cond, List, [], ◌∷◌, Option, Some, None, refl}
 use Rattle.std.proofs.Common.{sym, ap, ◌∙◌, length, arith, bytes_eq}
-use Rattle.std.proofs.lemmas.Slice.Eq.{bytes_eq-Decides}
 use Rattle.rdm_wire.specs.BranchText.{BranchText}
 use Rattle.rdm_wire.specs.Reading.{text_read}
 use Rattle.rdm_wire.specs.Bytes.{uid_bytes}
@@ -14,13 +13,7 @@ use Rattle.rdm_wire.specs.Honest.{Asked, Heard, Seen}
 use Rattle.rdm_wire.specs.Honest.Asked.{Unmute, Branch, Mute, Other}
 use Rattle.rdm_wire.specs.Honest.Heard.{Noise}
 use Rattle.rdm_wire.proofs.Text.{of-text_read}
-
-pub other_bytes : (b c : List ℕ) → (b ≡ c → ⊥) → bytes_eq b c ≡ false
-other_bytes b c other = by_test (bytes_eq b c) refl
-  where
-    by_test : (t : Bool) → bytes_eq b c ≡ t → bytes_eq b c ≡ false
-    by_test true is = absurd (other ((bytes_eq-Decides b c).0 is))
-    by_test false is = is
+use Rattle.rdm_wire.proofs.CommandReads.{other_bytes}
 
 -- the three tests, one after another
 pub asks_by : (b : List ℕ) (u r m : Bool) → bytes_eq b (unmute_frame (fields_at b).source (fields_at b).tn) ≡ u

@@ -5,7 +5,8 @@ use Rattle.std.specs.Prelude.{◌⊎◌, ◌≢◌, ◌==◌, nat_le, filter, Ma
 use Rattle.std.specs.List.{AllByRecursion}
 use Rattle.std.proofs.lemmas.List.{map-append, take_at, get_or_at, drop_more, take-append-drop}
 use Rattle.std.proofs.lemmas.List.{length-take-le}
-use Rattle.std.proofs.lemmas.Bool.{and_parts, and_from, or_cases, cases_lt, eqb-true, eq-eqb, leb-true}
+use Rattle.std.proofs.lemmas.Bool.{and_parts, and_from, or_cases, cases_lt, eqb-true, eq-eqb, leb-true, not-true}
+use Rattle.std.proofs.Math.Bool.{or-true}
 use Rattle.rdm_wire.specs.Uid.{has, is_broadcast, is_within, IsAscending, IsDevice, IsDeviceSet}
 use Rattle.rdm_wire.specs.Honest.{Asked, Heard, Seen, LineState, HonestStep, HonestTrace, Chain, MayReply, MuteMoves}
 use Rattle.rdm_wire.specs.Honest.{KeepsMuted, LineCounts, due_in, before_run, is_acked}
@@ -18,7 +19,7 @@ use Rattle.rdm_explain.specs.Garbled.{StaysMuted, IsNoAnswer, IsGarbledExchange,
 use Rattle.rdm_explain.specs.body.Garbling.{stays_muted, is_wrong_reply, is_no_acknowledgement, is_garbled_by}
 use Rattle.rdm_explain.specs.body.Garbling.{is_garbled}
 use Rattle.rdm_explain.proofs.ElementLemmas.{own_elements}
-use Rattle.rdm_explain.proofs.MutedLemmas.{muted_is, muted_test, or_true}
+use Rattle.rdm_explain.proofs.MutedLemmas.{muted_is, muted_test}
 use Rattle.rdm_explain.proofs.StrayLemmas.{NoFailure, failed_in}
 
 pub cons_head : {X : Type 0} (x y : X) (xs ys : List X) → x ∷ xs ≡ y ∷ ys → x ≡ y
@@ -29,10 +30,6 @@ cons_tail x y xs ys e = cc
 
 nil_cons : {X : Type 0} (x : X) (xs : List X) → [] ≡ x ∷ xs → ⊥
 nil_cons x xs e = cc
-
-not_true : (b : Bool) → not b ≡ true → b ≡ true → ⊥
-not_true true n b = true≢false (sym n)
-not_true false n b = true≢false (sym b)
 
 one_is : (u v : ℕ) → One v ≡ One u → v ≡ u
 one_is u v e = cc
@@ -52,7 +49,7 @@ wrong_reply u x (One v) is = record {
   wrong = elim (or_cases (stays_muted x u) (not (v == u) || is_broadcast u) is) [
     | inl muted ↦ inr (inl (muted_is u x muted))
     | inr rest ↦ elim (or_cases (not (v == u)) (is_broadcast u) rest) [
-      | inl other ↦ inl (λ e. not_true (v == u) other (eq-eqb v u (one_is u v e)))
+      | inl other ↦ inl (λ e. true≢false (sym (eq-eqb v u (one_is u v e)) ∙ not-true (v == u) other))
       | inr broadcast ↦ inr (inr broadcast)
     ]
   ];
@@ -68,12 +65,12 @@ of_wrong u x (One v) fine loud (inl other) = by_test (v == u) refl
   where
     by_test : (b : Bool) → (v == u) ≡ b → (stays_muted x u || (not b || is_broadcast u)) ≡ true
     by_test true is = absurd (other (ap (λ w. One w) (eqb-true v u is)))
-    by_test false is = or_true (stays_muted x u)
+    by_test false is = or-true (stays_muted x u)
 of_wrong u x (One v) fine loud (inr (inl muted)) =
     ap (λ b. b || (not (v == u) || is_broadcast u)) (muted_test u x muted)
 of_wrong u x (One v) fine loud (inr (inr broadcast)) =
     ap (λ b. stays_muted x u || (not (v == u) || b)) broadcast
-    ∙ ap (λ b. stays_muted x u || b) (or_true (not (v == u))) ∙ or_true (stays_muted x u)
+    ∙ ap (λ b. stays_muted x u || b) (or-true (not (v == u))) ∙ or-true (stays_muted x u)
 of_wrong u x (Acked ack) fine loud wrong = refl
 of_wrong u x Noise fine loud wrong = refl
 

@@ -1,6 +1,7 @@
 -- No honest line whose devices come and leave has a garbled exchange.
 use Rattle.std.proofs.Common.{◌≡◌, ℕ, Bool, true, false, ◌||◌, List, [], ◌∷◌, ◌++◌, refl, sym, ap, ◌∙◌, subst, inl, inr}
 use Rattle.std.proofs.Common.{true≢false}
+use Rattle.std.proofs.Math.Bool.{or-true}
 use Rattle.std.specs.Prelude.{◌⊎◌, ◌≢◌, ◌==◌}
 use Rattle.std.specs.List.{AllByRecursion}
 use Rattle.rdm_wire.specs.Uid.{has, is_broadcast, IsDeviceSet}
@@ -54,11 +55,7 @@ still_there earlier last present old moved u changes now was there = by_last (ha
 
 in_both : (us vs : List ℕ) (u : ℕ) → has vs u ≡ true → has (us ++ vs) u ≡ true
 in_both [] vs u is = is
-in_both (v ∷ us) vs u is = ap (λ b. (u == v) || b) (in_both us vs u is) ∙ or_true (u == v)
-  where
-    or_true : (b : Bool) → (b || true) ≡ true
-    or_true true = refl
-    or_true false = refl
+in_both (v ∷ us) vs u is = ap (λ b. (u == v) || b) (in_both us vs u is) ∙ or-true (u == v)
 
 in_first : (us vs : List ℕ) (u : ℕ) → has us u ≡ true → has (us ++ vs) u ≡ true
 in_first [] vs u is = absurd (true≢false (sym is))

@@ -1,10 +1,10 @@
 -- On a line that is honest to devices, one of them is due if an exchange is answered.
 use Rattle.std.proofs.Common.{◌≡◌, ℕ, Bool, true, false, ◌&&◌, not, List, [], ◌∷◌, ◌++◌, refl, sym, ap, ◌∙◌, subst, inl}
-use Rattle.std.proofs.Common.{inr, true≢false, rules}
+use Rattle.std.proofs.Common.{inr, true≢false}
 use Rattle.std.specs.Prelude.{◌⊎◌, ◌≢◌, ◌==◌, MatchBool, filter}
 use Rattle.std.specs.List.{AllByRecursion}
 use Rattle.std.proofs.lemmas.List.{map-append}
-use Rattle.std.proofs.lemmas.Bool.{cases_Bool, and_parts}
+use Rattle.std.proofs.lemmas.Bool.{cases_Bool, and_parts, not-true, eq-eqb}
 use Rattle.rdm_wire.specs.Uid.{has, is_within}
 use Rattle.rdm_wire.specs.Honest.{Asked, Heard, Seen, LineState, HonestStep, HonestTrace, Chain, LineCounts, MayReply}
 use Rattle.rdm_wire.specs.Honest.{HonestToStep, MuteMoves, KeepsMuted, due_in, before_run, is_acked}
@@ -61,10 +61,6 @@ some_pass f (u ∷ us) none = by_test (cases_Bool (f u)) (λ rest. some_pass f u
 silent_of : (due : List ℕ) (h : Heard) → due ≡ [] → MayReply due h → h ≡ Silent
 silent_of due h empty may = subst (λ l. MayReply l h) empty may
 
-not_false : (b : Bool) → not b ≡ true → b ≡ false
-not_false true e = absurd (true≢false (sym e))
-not_false false e = refl
-
 -- an honest step keeps a device muted, if it isn't an unmute
 step_keeps : (u : ℕ) (old new : LineState) (a : Asked) (h : Heard) → a ≢ Unmute → HonestToStep u old a h new
     → old.muted u ≡ true → new.muted u ≡ true
@@ -83,11 +79,8 @@ step_keeps u old new (Mute v) h other step is = by_uid (u == v) step
 step_mutes : (u : ℕ) (old new : LineState) (a : Asked) (h : Heard) → a ≡ Mute u → is_acked h ≡ true
     → HonestToStep u old a h new → new.muted u ≡ true
 step_mutes u old new a h is acked step =
-    by_uid (u == u) (itself u) (subst (λ b. HonestToStep u old b h new) is step)
+    by_uid (u == u) (eq-eqb u u refl) (subst (λ b. HonestToStep u old b h new) is step)
   where
-    itself : (v : ℕ) → (v == v) ≡ true
-    itself v = search rules
-
     by_uid : (b : Bool) → b ≡ true → MatchBool b (MuteMoves u old h new) (KeepsMuted u old new × LineCounts new 0 0 0)
         → new.muted u ≡ true
     by_uid true same (inl moves) = moves.1
@@ -150,7 +143,7 @@ no_step us ps present x s new (Branch lo hi) h listed known stay loud nobody ste
     by_due : Passing test present → ⊥
     by_due p =
         let both = and_parts (is_within lo hi p.uid) (not (s.muted p.uid)) p.passes in
-        true≢false (sym (is_muted p.uid p.there both.0 (listed p.uid p.there)) ∙ not_false (s.muted p.uid) both.1)
+        true≢false (sym (is_muted p.uid p.there both.0 (listed p.uid p.there)) ∙ not-true (s.muted p.uid) both.1)
 
 -- a device is muted, if it can't be unmuted in a state that is reached
 pub muted_if : (u : ℕ) (x : List Seen) (muted : ℕ → Bool) (s end : LineState) → IsBelow u end s

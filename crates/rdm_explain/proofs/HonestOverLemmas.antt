@@ -1,11 +1,11 @@
 -- The same on a line whose devices come and leave.
-use Rattle.std.proofs.Common.{◌≡◌, ℕ, true, List, [], ◌∷◌, ◌++◌, refl, sym, ap, ◌∙◌, subst, inl, inr, arith}
+use Rattle.std.proofs.Common.{◌≡◌, ℕ, true, List, [], ◌∷◌, ◌++◌, refl, ap, ◌∙◌, subst, inl, inr}
 use Rattle.std.specs.Prelude.{◌⊎◌, ◌≢◌}
 use Rattle.std.proofs.lemmas.List.{map-append}
 use Rattle.rdm_wire.specs.Uid.{has}
 use Rattle.rdm_wire.specs.Honest.{Seen, LineState, HonestStep, before_run}
 use Rattle.rdm_wire.specs.Honest.Heard.{Failed}
-use Rattle.rdm_wire.specs.HonestOver.{ComeAndLeave, HonestOver, ChainOver, first_set}
+use Rattle.rdm_wire.specs.HonestOver.{HonestOver, ChainOver, first_set}
 use Rattle.rdm_wire.proofs.EachDevice.{IsBelow, below_step, same_below}
 use Rattle.rdm_agent.specs.Statements.{IsInEach, IsInOne}
 use Rattle.rdm_explain.specs.declared.exchange.Exchange.{Exchange}
@@ -15,6 +15,7 @@ use Rattle.rdm_explain.specs.Strays.{Leads, MayBeUnmuted, IsStray}
 use Rattle.rdm_explain.proofs.GarbledLemmas.{at_end}
 use Rattle.rdm_explain.proofs.GarbledOverLemmas.{WillBeMutedOver, still_there, step_waits}
 use Rattle.rdm_explain.proofs.HonestLemmas.{no_step, muted_if}
+use Rattle.rdm_agent.proofs.ChangingDevices.{stays_below}
 
 -- the exchange after some others, with its devices and the states that it leads from and to
 record Reached (earlier last : List ℕ) (s : LineState) (sets : List (List ℕ)) (front : List Seen) (e : Seen)
@@ -27,16 +28,6 @@ record Reached (earlier last : List ℕ) (s : LineState) (sets : List (List ℕ)
   way : (u : ℕ) (t : LineState) → has last u ≡ true → IsInEach u sets → IsBelow u t s
       → (end : LineState) × IsBelow u end old × Leads u t front end
   stay : (u : ℕ) → WillBeMutedOver earlier last s.muted u front → has present u ≡ true → old.muted u ≡ true
-
--- coming and leaving moves nothing of a device that stays
-stays_below : (u : ℕ) (earlier last present : List ℕ) (s moved t : LineState) → has last u ≡ true → has present u ≡ true
-    → ComeAndLeave earlier last present s moved → IsBelow u t s → IsBelow u t moved
-stays_below u earlier last present s moved t was is m under = record {
-  muted = under.muted ∙ sym (m.stays u was is);
-  branches = let few = under.branches in let same = m.lost_branches in omega arith;
-  lost = let few = under.lost in let same = m.lost_mutes in omega arith;
-  unmutes = under.unmutes ∙ sym m.unmutes;
-}
 
 reached : (earlier last : List ℕ) (s : LineState) (sets : List (List ℕ)) (front : List Seen) (e : Seen)
     (rest : List Seen) → NoFailure front → e.heard ≢ Failed → ChainOver earlier last s sets (front ++ e ∷ rest)

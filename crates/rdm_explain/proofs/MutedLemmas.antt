@@ -1,11 +1,12 @@
 -- Whether a device stays muted, as a test.
 use Rattle.std.proofs.Common.{◌≡◌, ℕ, ◌+◌, ◌<◌, Bool, true, false, ◌&&◌, ◌||◌, List, [], ◌∷◌, ◌++◌, refl, sym, ap, ◌∙◌}
-use Rattle.std.proofs.Common.{subst, inl, inr, true≢false, append_assoc, append-nil, rules, length, take, get_or}
+use Rattle.std.proofs.Common.{subst, inl, inr, true≢false, append_assoc, append-nil, length, take, get_or}
 use Rattle.std.specs.Prelude.{◌≢◌, ◌==◌, fold}
 use Rattle.std.specs.List.{AllByRecursion}
 use Rattle.std.proofs.lemmas.List.{map-append, take_more}
-use Rattle.std.proofs.lemmas.Bool.{and_parts, or_cases, eqb-true}
+use Rattle.std.proofs.lemmas.Bool.{and_parts, or_cases, eqb-true, eq-eqb}
 use Rattle.std.proofs.lemmas.List.Sums.{fold-append}
+use Rattle.std.proofs.Math.Bool.{or-true}
 use Rattle.rdm_wire.specs.Honest.{Asked, Heard, Seen, is_acked}
 use Rattle.rdm_wire.specs.Honest.Asked.{Unmute, Branch, Mute, Other}
 use Rattle.rdm_explain.specs.declared.exchange.Exchange.{Exchange}
@@ -56,15 +57,11 @@ muted_from u front (e ∷ x) b was is =
 pub muted_is : (u : ℕ) (x : List Seen) → stays_muted x u ≡ true → StaysMuted u x
 muted_is u x is = muted_from u [] x false (λ never. absurd (true≢false (sym never))) is
 
-pub or_true : (b : Bool) → (b || true) ≡ true
-or_true true = refl
-or_true false = refl
-
 still_muted : (u : ℕ) (a : Asked) (h : Heard) → a ≢ Unmute → muted_after u true a h ≡ true
 still_muted u Unmute h other = absurd (other refl)
 still_muted u (Branch lo hi) h other = refl
 still_muted u Other h other = refl
-still_muted u (Mute v) h other = or_true (is_acked h && (u == v))
+still_muted u (Mute v) h other = or-true (is_acked h && (u == v))
 
 muted_through : (u : ℕ) (x : List Seen) → AllByRecursion (λ (e : Seen). e.asked ≢ Unmute) x
     → fold (muted_with u) true x ≡ true
@@ -74,10 +71,8 @@ muted_through u (e ∷ x) all =
 
 muted_by : (u : ℕ) (b : Bool) (e : Seen) → e.asked ≡ Mute u → is_acked e.heard ≡ true → muted_with u b e ≡ true
 muted_by u b e asked acked =
-    ap (λ a. muted_after u b a e.heard) asked ∙ ap (λ k. (k && (u == u)) || b) acked ∙ ap (λ k. k || b) (itself u)
-  where
-    itself : (v : ℕ) → (v == v) ≡ true
-    itself v = search rules
+    ap (λ a. muted_after u b a e.heard) asked ∙ ap (λ k. (k && (u == u)) || b) acked
+    ∙ ap (λ k. k || b) (eq-eqb u u refl)
 
 pub muted_test : (u : ℕ) (x : List Seen) → StaysMuted u x → stays_muted x u ≡ true
 muted_test u x is =

@@ -1,9 +1,10 @@
 -- Which UIDs exchanges mute, by what was known and read before.
-use Rattle.std.proofs.Common.{◌≡◌, ℕ, Bool, true, false, ◌||◌, not, cond, List, [], ◌∷◌, ◌++◌, Some, None, one-add}
-use Rattle.std.proofs.Common.{refl, sym, ap, ◌∙◌, inl, inr, true≢false, ◌+◌, take}
+use Rattle.std.proofs.Common.{◌≡◌, ℕ, Bool, true, false, ◌||◌, List, [], ◌∷◌, ◌++◌}
+use Rattle.std.proofs.Common.{refl, sym, ap, ◌∙◌, inl, inr, true≢false, ◌+◌}
 use Rattle.std.specs.Prelude.{◌⊎◌}
-use Rattle.std.specs.List.{AllByRecursion, before_first, position_or_len}
-use Rattle.std.proofs.lemmas.Bool.{or_cases}
+use Rattle.std.specs.List.{AllByRecursion, before_first}
+use Rattle.std.proofs.lemmas.Bool.{or_cases, not-true, not-false}
+use Rattle.std.proofs.lemmas.Option.{none-some, same_Some}
 use Rattle.rdm_wire.specs.Uid.{has}
 use Rattle.rdm_wire.proofs.EachAfterLemmas.{EachAfter-push}
 use Rattle.rdm_wire.specs.Honest.{Asked, Seen}
@@ -14,6 +15,7 @@ use Rattle.rdm_explain.specs.declared.uids.Uids.{Uids}
 use Rattle.rdm_explain.specs.Certificates.{MutesAreNamed}
 use Rattle.rdm_explain.specs.body.Trees.{in_tree}
 use Rattle.rdm_explain.specs.body.Naming.{asks_other, mutes_other}
+use Rattle.rdm_agent.proofs.Pushes.{before_branch-cons}
 
 -- the tree has the known UIDs and those that were read
 abbrev pub Names : List ℕ → List Seen → Uids → Type 0
@@ -24,14 +26,6 @@ or_of true b e = refl
 or_of false b (inl e) = absurd (true≢false (sym e))
 or_of false b (inr e) = e
 
-not_true : (b : Bool) → not b ≡ true → b ≡ true → ⊥
-not_true true n t = true≢false (sym n)
-not_true false n t = true≢false (sym t)
-
-not_false : (b : Bool) → not b ≡ false → b ≡ true
-not_false true n = refl
-not_false false n = absurd (true≢false n)
-
 pub unread_ends : (known : List ℕ) (x : List Seen) (t : Uids) (e : Seen) → Names known x t → mutes_other t e ≡ true
     → MutesAreNamed known (x ++ e ∷ []) → ⊥
 unread_ends known x t e names = by_asked e.asked refl
@@ -41,14 +35,8 @@ unread_ends known x t e names = by_asked e.asked refl
     by_asked (Branch lo hi) is now all = true≢false (sym now)
     by_asked Other is now all = true≢false (sym now)
     by_asked (Mute u) is now all =
-        not_true (in_tree t u) now
-        (names u ∙ or_of (has known u) (has (read_in x) u) (all x [] e refl u (ap muted_uid is)))
-
-some_uid : (u v : ℕ) → Some u ≡ Some v → u ≡ v
-some_uid u v e = cc
-
-none_uid : (v : ℕ) → None ≡ Some v → ⊥
-none_uid v e = cc
+        true≢false (sym (names u ∙ or_of (has known u) (has (read_in x) u) (all x [] e refl u (ap muted_uid is)))
+        ∙ not-true (in_tree t u) now)
 
 pub unread_goes_on : (known : List ℕ) (x : List Seen) (t : Uids) (e : Seen) → Names known x t
     → mutes_other t e ≡ false → MutesAreNamed known x → MutesAreNamed known (x ++ e ∷ [])
@@ -56,25 +44,17 @@ unread_goes_on known x t e names other all =
     EachAfter-push (MutesNamed known) x e all (by_asked e.asked refl other)
   where
     by_asked : (a : Asked) → e.asked ≡ a → asks_other t a ≡ false → MutesNamed known x e
-    by_asked Unmute is now = λ v muted. absurd (none_uid v (sym (ap muted_uid is) ∙ muted))
-    by_asked (Branch lo hi) is now = λ v muted. absurd (none_uid v (sym (ap muted_uid is) ∙ muted))
-    by_asked Other is now = λ v muted. absurd (none_uid v (sym (ap muted_uid is) ∙ muted))
+    by_asked Unmute is now = λ v muted. absurd (none-some v (sym (ap muted_uid is) ∙ muted))
+    by_asked (Branch lo hi) is now = λ v muted. absurd (none-some v (sym (ap muted_uid is) ∙ muted))
+    by_asked Other is now = λ v muted. absurd (none-some v (sym (ap muted_uid is) ∙ muted))
     by_asked (Mute u) is now = λ v muted.
-        let same : u ≡ v = some_uid u v (sym (ap muted_uid is) ∙ muted) in
+        let same : u ≡ v = same_Some u v (sym (ap muted_uid is) ∙ muted) in
         or_cases (has known v) (has (read_in x) v)
-        (sym (names v) ∙ ap (in_tree t) (sym same) ∙ not_false (in_tree t u) now)
+        (sym (names v) ∙ ap (in_tree t) (sym same) ∙ not-false (in_tree t u) now)
 
 -- what stands before the first branch
-before_cons : (e : Seen) (x : List Seen)
-    → before_first is_branch (e ∷ x) ≡ cond (is_branch e) [] (e ∷ before_first is_branch x)
-before_cons e x = by_test (is_branch e) (position_or_len is_branch x)
-  where
-    by_test : (b : Bool) (n : ℕ) → take (cond (not b) (1 + n) 0) (e ∷ x) ≡ cond b [] (e ∷ take n x)
-    by_test true n = refl
-    by_test false n = rw one-add refl
-
 pub before_branch : (x : List Seen) (e : Seen) (y : List Seen) → AllByRecursion (λ d. is_branch d ≡ false) x
     → is_branch e ≡ true → before_first is_branch (x ++ e ∷ y) ≡ x
-before_branch [] e y none is = before_cons e y ∙ rw is refl
+before_branch [] e y none is = before_branch-cons e y ∙ rw is refl
 before_branch (d ∷ x) e y none is =
-    before_cons d (x ++ e ∷ y) ∙ rw none.0 (ap (λ l. d ∷ l) (before_branch x e y none.1 is))
+    before_branch-cons d (x ++ e ∷ y) ∙ rw none.0 (ap (λ l. d ∷ l) (before_branch x e y none.1 is))

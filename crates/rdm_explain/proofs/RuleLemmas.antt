@@ -2,7 +2,7 @@
 use Rattle.std.proofs.Common.{◌≡◌, ℕ, ◌+◌, ◌<◌, Bool, true, false, ◌&&◌, ◌||◌, List, [], ◌∷◌, ◌++◌, refl, sym, ap, ◌∙◌}
 use Rattle.std.proofs.Common.{subst, inl, inr, true≢false, arith}
 use Rattle.std.specs.Prelude.{◌⊎◌, ◌≢◌, ◌==◌, nat_le, if◌then◌else◌}
-use Rattle.std.proofs.lemmas.Bool.{cases_Bool, and_parts, leb-false, eqb-true}
+use Rattle.std.proofs.lemmas.Bool.{cases_Bool, and_parts, leb-false, eqb-true, or_left, or_right}
 use Rattle.rdm_wire.specs.Uid.{is_within}
 use Rattle.rdm_wire.specs.Honest.{Asked, Heard, Seen, is_acked, is_silent}
 use Rattle.rdm_wire.specs.Honest.Asked.{Unmute, Branch, Mute, Other}
@@ -12,7 +12,8 @@ use Rattle.rdm_explain.specs.Rules.{EndsWith, EndsBy, IsSilentAround, IsSilentMu
 use Rattle.rdm_explain.specs.body.Standings.{is_alive, with_counts, after_branch, after_mute, after_asked, after}
 use Rattle.rdm_explain.specs.body.Watching.{rule_heard, rule_by}
 use Rattle.rdm_explain.proofs.EndLemmas.{ends_none, ends_more, ends_fewer}
-use Rattle.rdm_explain.proofs.StandingLemmas.{heard_failed, after_failure, after_other, or_left, or_right}
+use Rattle.rdm_explain.proofs.StandingLemmas.{after_failure, after_other}
+use Rattle.rdm_wire.proofs.NoisyLemmas.{has_failed}
 
 abbrev pub exchange_of : Asked → Heard → Seen
 exchange_of a h = record { asked = a; heard = h }
@@ -105,7 +106,7 @@ stays_stopped u p e is = rw is refl
 
 pub ends_after : (u : ℕ) (x : List Seen) (p : Standing) (e : Seen) → StreaksUnlessStopped u x p
     → StreaksUnlessStopped u (x ++ e ∷ []) (after u p e)
-ends_after u x p e ends on = by_stopped (cases_Bool p.stopped) (heard_failed e.heard)
+ends_after u x p e ends on = by_stopped (cases_Bool p.stopped) (has_failed e.heard)
   where
     by_stopped : (p.stopped ≡ true) ⊎ (p.stopped ≡ false) → (e.heard ≡ Failed) ⊎ (e.heard ≢ Failed)
         → Streaks u (x ++ e ∷ []) (after u p e)
@@ -200,7 +201,7 @@ dies_asked u x p Other h alive ends ok dead = absurd (true≢false (sym alive �
 
 pub breaks_rule : (u : ℕ) (x : List Seen) (p : Standing) (e : Seen) → is_alive p ≡ true → StreaksUnlessStopped u x p
     → is_alive (after u p e) ≡ false → EndsBy u (rule_by e) (x ++ e ∷ [])
-breaks_rule u x p e alive ends dead = by_stopped (cases_Bool p.stopped) (heard_failed e.heard)
+breaks_rule u x p e alive ends dead = by_stopped (cases_Bool p.stopped) (has_failed e.heard)
   where
     by_stopped : (p.stopped ≡ true) ⊎ (p.stopped ≡ false) → (e.heard ≡ Failed) ⊎ (e.heard ≢ Failed)
         → EndsBy u (rule_by e) (x ++ e ∷ [])

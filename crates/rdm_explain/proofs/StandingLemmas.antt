@@ -3,6 +3,7 @@ use Rattle.std.proofs.Common.{◌≡◌, ℕ, ◌+◌, ◌<◌, ◌≤◌, Bool,
 use Rattle.std.proofs.Common.{ap, ◌∙◌, subst, inl, inr, true≢false, arith}
 use Rattle.std.specs.Prelude.{◌⊎◌, ◌≢◌, ◌==◌, nat_le, fold, MatchBool, if◌then◌else◌}
 use Rattle.std.proofs.lemmas.Bool.{cases_Bool, or_cases, and_parts, and_from, leb-true, leb-false, le-leb}
+use Rattle.std.proofs.lemmas.Bool.{or_left, or_right}
 use Rattle.rdm_wire.specs.Uid.{is_within}
 use Rattle.rdm_wire.specs.Honest.{Asked, Heard, Seen, LineState, HonestToStep, HonestTo, Chain, LineCounts, due_in}
 use Rattle.rdm_wire.specs.Honest.{lost_after, KeepsMuted, MuteMoves, UnmuteMoves, is_acked, is_silent, before_run}
@@ -11,6 +12,7 @@ use Rattle.rdm_wire.specs.Honest.Heard.{Failed, Silent, One, Acked, Noise}
 use Rattle.rdm_explain.specs.declared.standing.Standing.{Standing}
 use Rattle.rdm_explain.specs.body.Standings.{is_alive, with_counts, after_branch, after_mute, after_unmute, after_asked}
 use Rattle.rdm_explain.specs.body.Standings.{stopped_at, after_heard, after_either, after, at_start, standing}
+use Rattle.rdm_wire.proofs.NoisyLemmas.{has_failed}
 
 -- it is muted in s, and may be; or unmuted
 abbrev pub May : Standing → ℕ → LineState → Type 0
@@ -40,13 +42,6 @@ some_state p u alive =
       | inl m ↦ (state_of p true 0, muted_state p u m)
       | inr m ↦ (state_of p false p.lost_branches, unmuted_state p u m)
     ]
-
-pub or_right : (a b : Bool) → b ≡ true → (a || b) ≡ true
-or_right true b e = refl
-or_right false b e = e
-
-pub or_left : (a b : Bool) → a ≡ true → (a || b) ≡ true
-or_left a b e = rw e refl
 
 alive_of : (p : Standing) (u : ℕ) (s : LineState) → Allows p u s → is_alive p ≡ true
 alive_of p u s a =
@@ -416,13 +411,6 @@ after_stopped u p (e ∷ x) stopped =
     let same : after u p e ≡ p = ap (λ b. after_either u b p e.asked e.heard) stopped in
     ap (λ q. fold (after u) q x) same ∙ after_stopped u p x stopped
 
-pub heard_failed : (h : Heard) → (h ≡ Failed) ⊎ (h ≢ Failed)
-heard_failed Failed = inl refl
-heard_failed Silent = inr (λ e. cc)
-heard_failed (One v) = inr (λ e. cc)
-heard_failed (Acked ack) = inr (λ e. cc)
-heard_failed Noise = inr (λ e. cc)
-
 not_failed : (u : ℕ) (p : Standing) (a : Asked) (h : Heard) → h ≢ Failed → after_heard u p a h ≡ after_asked u p a h
 not_failed u p a Failed ok = absurd (ok refl)
 not_failed u p a Silent ok = refl
@@ -450,7 +438,7 @@ complete : (u : ℕ) (p : Standing) (s : LineState) (x : List Seen) → p.stoppe
 complete u p s [] on is chain = alive_of p u s is
 complete u p s (e ∷ x) on is chain =
     by_heard (λ new i c. complete u (after_asked u p e.asked e.heard) new x (goes_on u p e.asked e.heard ∙ on) i c)
-    (heard_failed e.heard) chain
+    (has_failed e.heard) chain
   where
     by_heard : ((new : LineState) → Allows (after_asked u p e.asked e.heard) u new → Chain (HonestToStep u) new x
         → is_alive (fold (after u) (after_asked u p e.asked e.heard) x) ≡ true)
@@ -471,7 +459,7 @@ sound : (u : ℕ) (p : Standing) (x : List Seen) → p.stopped ≡ false → is_
 sound u p [] on alive = let some = some_state p u alive in (some.0, some.1, tt)
 sound u p (e ∷ x) on alive =
     by_heard (λ still. sound u (after_asked u p e.asked e.heard) x (goes_on u p e.asked e.heard ∙ on) still)
-    (heard_failed e.heard)
+    (has_failed e.heard)
   where
     by_heard : (is_alive (fold (after u) (after_asked u p e.asked e.heard) x) ≡ true
         → Possible u (after_asked u p e.asked e.heard) x)
@@ -562,7 +550,7 @@ alive_before u p e = by_stopped p.stopped
 
     by_stopped : (b : Bool) → is_alive (after_either u b p e.asked e.heard) ≡ true → is_alive p ≡ true
     by_stopped true alive = alive
-    by_stopped false alive = by_heard (heard_failed e.heard) alive
+    by_stopped false alive = by_heard (has_failed e.heard) alive
 
 pub alive_through : (u : ℕ) (p : Standing) (x : List Seen) → is_alive (fold (after u) p x) ≡ true → is_alive p ≡ true
 alive_through u p [] alive = alive

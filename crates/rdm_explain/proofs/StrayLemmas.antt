@@ -7,6 +7,7 @@ use Rattle.std.specs.List.{AllByRecursion}
 use Rattle.std.proofs.lemmas.List.{map-append, take_more, take_at, get_or_at, drop_more, take-append-drop}
 use Rattle.std.proofs.lemmas.List.{length-take-le}
 use Rattle.std.proofs.lemmas.Bool.{cases_Bool, or_cases, or_parts, and_parts, and_from, cases_lt}
+use Rattle.std.proofs.lemmas.Bool.{not-true, not_from_false}
 use Rattle.rdm_wire.specs.Uid.{has, is_within}
 use Rattle.rdm_wire.specs.Honest.{Asked, Heard, Seen, LineState, before_run, is_silent}
 use Rattle.rdm_wire.specs.Honest.Asked.{Unmute, Branch, Mute, Other}
@@ -65,13 +66,6 @@ of_unmuted u x ok holds =
       unmuted = refl;
     }
 
-not_true : (b : Bool) → not b ≡ true → b ≡ true → ⊥
-not_true true n b = true≢false (sym n)
-not_true false n b = true≢false (sym b)
-
-not_of : (b : Bool) → b ≡ false → not b ≡ true
-not_of b e = rw e refl
-
 -- whether a device is known to be muted
 known_muted : (xs : List Exchange) (w : Watch) → NoFailure (seen_all xs) → Watches xs w → is_muted w ≡ true
     → IsMuted w.uid (seen_all xs)
@@ -83,8 +77,8 @@ known_muted xs w ok is holds = by_breach w.breach is
     by_breach : (o : Option Breach) → Known xs w o → IsMuted w.uid (seen_all xs)
     by_breach None known = record {
       honest = alive_honest w.uid (seen_all xs) (ap is_alive (sym known.0) ∙ known.1);
-      muted = λ m. not_true w.standing.unmuted both.1
-          (ap (λ p. p.unmuted) known.0 ∙ unmuted_of w.uid (seen_all xs) ok m);
+      muted = λ m. true≢false (sym (ap (λ p. p.unmuted) known.0 ∙ unmuted_of w.uid (seen_all xs) ok m)
+          ∙ not-true w.standing.unmuted both.1);
     }
     by_breach (Some b) known =
         absurd (true≢false (sym (ap (λ m. m || w.standing.unmuted) both.0) ∙ known.1))
@@ -104,7 +98,7 @@ muted_known xs w ok is m = by_breach w.breach is
         and_from p.muted (not p.unmuted)
         (elim (or_cases p.muted p.unmuted alive)
         [ inl holds ↦ holds | inr holds ↦ absurd (true≢false (sym holds ∙ no_more)) ])
-        (not_of p.unmuted no_more)
+        (not_from_false p.unmuted no_more)
 
     by_breach : (o : Option Breach) → Known xs w o → is_muted w ≡ true
     by_breach None known = by_unmuted known.0 known.1 (cases_Bool p.unmuted)
@@ -172,12 +166,8 @@ record StrayBy (xs : List Exchange) (ws : List Watch) (ps : List ℕ) (a : Asked
   not_silent : h ≢ Silent
   nobody : NobodyIsDue (uids_watched ws) ps (seen_all xs) a
 
-not_is : (b : Bool) → not b ≡ true → b ≡ false
-not_is true e = absurd (true≢false (sym e))
-not_is false e = refl
-
 loud : (h : Heard) → not (is_silent h) ≡ true → h ≢ Silent
-loud h holds silent = not_true (is_silent h) holds (ap is_silent silent)
+loud h holds silent = true≢false (sym (ap is_silent silent) ∙ not-true (is_silent h) holds)
 
 stray_by : (xs : List Exchange) (ws : List Watch) (ps : List ℕ) (muted : ℕ → Bool) (a : Asked) (h : Heard)
     → NoFailure (seen_all xs) → AllByRecursion (Watches xs) ws → Knows muted (seen_all xs)
@@ -188,7 +178,7 @@ stray_by xs ws ps muted (Mute u) h ok all known holds =
     let both = and_parts (not (is_silent h)) (not (is_listed u ws) && not (has ps u)) holds in
     let neither = and_parts (not (is_listed u ws)) (not (has ps u)) both.1 in record {
       not_silent = loud h both.0;
-      nobody = (sym (listed u ws) ∙ not_is (is_listed u ws) neither.0, not_is (has ps u) neither.1);
+      nobody = (sym (listed u ws) ∙ not-true (is_listed u ws) neither.0, not-true (has ps u) neither.1);
     }
 stray_by xs ws ps muted (Branch lo hi) h ok all known holds =
     let both = and_parts (not (is_silent h)) (are_quiet lo hi ws && are_muted lo hi muted ps) holds in
@@ -213,12 +203,13 @@ by_stray : (xs : List Exchange) (ws : List Watch) (ps : List ℕ) (muted : ℕ �
 by_stray xs ws ps muted Unmute h ok all known other nobody = absurd nobody
 by_stray xs ws ps muted Other h ok all known other nobody = absurd nobody
 by_stray xs ws ps muted (Mute u) h ok all known other nobody =
-    and_from (not (is_silent h)) (not (is_listed u ws) && not (has ps u)) (not_of (is_silent h) (silence_of h other))
-    (and_from (not (is_listed u ws)) (not (has ps u)) (not_of (is_listed u ws) (listed u ws ∙ nobody.0))
-    (not_of (has ps u) nobody.1))
+    and_from (not (is_silent h)) (not (is_listed u ws) && not (has ps u))
+    (not_from_false (is_silent h) (silence_of h other))
+    (and_from (not (is_listed u ws)) (not (has ps u)) (not_from_false (is_listed u ws) (listed u ws ∙ nobody.0))
+    (not_from_false (has ps u) nobody.1))
 by_stray xs ws ps muted (Branch lo hi) h ok all known other nobody =
     and_from (not (is_silent h)) (are_quiet lo hi ws && are_muted lo hi muted ps)
-    (not_of (is_silent h) (silence_of h other))
+    (not_from_false (is_silent h) (silence_of h other))
     (and_from (are_quiet lo hi ws) (are_muted lo hi muted ps) (nobody_quiet xs lo hi ws ok all nobody.0)
     (stay_muted (seen_all xs) lo hi muted ps known nobody.1))
 
@@ -352,7 +343,7 @@ pub test_stray : (us ps : List ℕ) (xs : List Exchange) (at : ℕ) (e : Exchang
     → b ≡ (not failed && is_stray ws ps muted (seen_of e)) → b ≡ true → IsStray us ps xs at
 test_stray us ps xs at e ws muted failed b within read here all known is holds =
     let both = and_parts (not failed) (is_stray ws ps muted (seen_of e)) (sym is ∙ holds) in
-    let ok = here.ok (not_is failed both.0) in
+    let ok = here.ok (not-true failed both.0) in
     stray_at us ps xs at e ws muted within read ok.0 all known ok.1 both.1
 
 pub stray_test : (us ps : List ℕ) (xs : List Exchange) (at : ℕ) (e : Exchange) (ws : List Watch) (muted : ℕ → Bool)
@@ -365,5 +356,5 @@ stray_test us ps xs at e ws muted failed b read here all known is s = by_failed 
     by_failed (inl over) = absurd (here.never over at (omega arith) s)
     by_failed (inr fine) =
         is
-        ∙ and_from (not failed) (is_stray ws ps muted (seen_of e)) (not_of failed fine)
+        ∙ and_from (not failed) (is_stray ws ps muted (seen_of e)) (not_from_false failed fine)
         (at_stray us ps xs at e ws muted read (here.ok fine).0 all known s)

@@ -5,6 +5,7 @@ use Rattle.std.specs.Prelude.{◌⊎◌, ◌==◌, nat_le, if◌then◌else◌}
 use Rattle.std.specs.List.{AllByRecursion}
 use Rattle.std.proofs.lemmas.List.{map-append, length-map}
 use Rattle.std.proofs.lemmas.Bool.{eqb-true, eq-eqb, or_cases, and_parts, and_from, leb-true, le-leb}
+use Rattle.std.proofs.Math.Bool.{or-true}
 use Rattle.rdm_wire.specs.Uid.{has, is_within}
 use Rattle.rdm_wire.specs.Honest.{Asked, Heard, Seen, is_acked}
 use Rattle.rdm_wire.specs.Honest.Asked.{Unmute, Branch, Mute, Other}
@@ -195,11 +196,7 @@ in_lows (s ∷ ss) u all (inl i) =
     let low = i.0 in let high = i.1 in let one = all.0 in
     let same : u ≡ s.lo = omega arith in ap (λ b. b || has (lows ss) u) (eq-eqb u s.lo same)
 in_lows (s ∷ ss) u all (inr later) =
-    ap (λ b. (u == s.lo) || b) (in_lows ss u all.1 later) ∙ or_true (u == s.lo)
-  where
-    or_true : (b : Bool) → (b || true) ≡ true
-    or_true true = refl
-    or_true false = refl
+    ap (λ b. (u == s.lo) || b) (in_lows ss u all.1 later) ∙ or-true (u == s.lo)
 
 lows_in : (ss : List Stretch) (u : ℕ) → AllByRecursion IsPoint ss → has (lows ss) u ≡ true → IsIn ss u
 lows_in [] u all h = absurd (true≢false (sym h))

@@ -3,7 +3,7 @@ use Rattle.std.proofs.Common.{◌≡◌, ℕ, ◌<◌, ◌^◌, Bool, true, fals
 use Rattle.std.proofs.Common.{◌∙◌, subst, inl, inr, true≢false}
 use Rattle.std.specs.List.{AllByRecursion}
 use Rattle.std.proofs.lemmas.List.Elements.{filter_map-append}
-use Rattle.std.proofs.lemmas.Bool.{or_cases}
+use Rattle.std.proofs.lemmas.Bool.{or_cases, not-true}
 use Rattle.rdm_wire.specs.Uid.{set_of, is_broadcast}
 use Rattle.rdm_wire.specs.Honest.{Asked, Seen}
 use Rattle.rdm_wire.specs.Honest.Asked.{Unmute, Branch, Mute, Other}
@@ -39,10 +39,6 @@ of_tried w u range own t = record {
   ];
 }
 
-not_true : (b : Bool) → not b ≡ true → b ≡ true → ⊥
-not_true true n t = true≢false (sym n)
-not_true false n t = true≢false (sym t)
-
 neither : (a b : Bool) → (a || not b) ≡ false → (a ≡ false) × (b ≡ true)
 neither true b e = absurd (true≢false e)
 neither false true e = (refl, refl)
@@ -66,7 +62,7 @@ tried_ends w x t e holds = by_asked e.asked refl
         let one = last u is all in
         elim (or_cases (is_broadcast u) (not (in_tree t u)) now) [
           | inl many ↦ true≢false (sym many ∙ one.device.own)
-          | inr other ↦ not_true (in_tree t u) other (holds u ∙ is_tried w u (to_tried w u one))
+          | inr other ↦ true≢false (sym (holds u ∙ is_tried w u (to_tried w u one)) ∙ not-true (in_tree t u) other)
         ]
 
 pub tried_goes_on : (w x : List Seen) (t : Uids) (e : Seen) → Holds (lows (tried_points w)) t

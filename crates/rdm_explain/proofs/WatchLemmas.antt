@@ -245,18 +245,6 @@ all_counted_start (u ∷ us) =
     (record { branches = omega arith; mutes = omega arith; unmutes = omega arith }, all_counted_start us)
 
 -- one device after the other hears it
-pub counted_at : (n : ℕ) (ws : List Watch) (i : ℕ) (w : Watch) → AllCounted n ws → i < length ws
-    → IsCounted n (get_or ws i w)
-counted_at n [] i w all within = absurd (omega arith)
-counted_at n (x ∷ ws) zero w all within = all.0
-counted_at n (x ∷ ws) (suc i) w all within = counted_at n ws i w all.1 (omega arith)
-
-pub some_heard : (f : Watch → Watch) (ws : List Watch) (i : ℕ) → i < length ws
-    → length (map f (take i ws) ++ drop i ws) ≡ length ws
-some_heard f [] i within = absurd (omega arith)
-some_heard f (x ∷ ws) zero within = refl
-some_heard f (x ∷ ws) (suc i) within = ap suc (some_heard f ws i (omega arith))
-
 pub next_unheard : (f : Watch → Watch) (ws : List Watch) (i : ℕ) (w : Watch) → i < length ws
     → get_or (map f (take i ws) ++ drop i ws) i w ≡ get_or ws i w
 next_unheard f [] i w within = absurd (omega arith)

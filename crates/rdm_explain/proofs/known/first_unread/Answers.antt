@@ -1,7 +1,7 @@
-use Rattle.std.proofs.Common.{◌≡◌, ◌∙◌, ◌||◌, Bool, true, false, sym, refl, subst, take, List, [], ◌∷◌, ◌++◌}
-use Rattle.rdm_wire.proofs.EachAfterLemmas.{EachAfter-front}
+use Rattle.std.proofs.Common.{◌∙◌, true, false, sym, subst, take}
+use Rattle.std.proofs.Math.Bool.{or-false}
+use Rattle.rdm_wire.proofs.EachAfterLemmas.{EachAfter-front, no_element}
 use Rattle.rdm_wire.specs.Uid.{has}
-use Rattle.rdm_wire.specs.Honest.{Seen}
 use Rattle.rdm_agent.specs.Run.{read_by}
 use Rattle.rdm_agent.specs.Certificate.{MutesNamed}
 use Rattle.rdm_explain.specs.Exchanges.{seen_of, seen_all}
@@ -10,17 +10,9 @@ use Rattle.rdm_explain.proofs.ReadLemmas.{first_without, seen_more, names_more}
 use Rattle.rdm_explain.proofs.NamedLemmas.{unread_ends, unread_goes_on}
 use Rattle.rdm_explain.proofs.known.first_unread.Goals as goal
 
-or_false : (b : Bool) → b ≡ (b || false)
-or_false true = refl
-or_false false = refl
-
-no_element : (front back : List Seen) (x : Seen) → [] ≡ front ++ x ∷ back → ⊥
-no_element [] back x e = cc
-no_element (y ∷ front) back x e = cc
-
 pub loop-at-init : goal.loop-at-init
 loop-at-init c = (
-  λ u. c.in_ok-named.ensures u ∙ or_false (has c.args.known.now u),
+  λ u. c.in_ok-named.ensures u ∙ sym (or-false (has c.args.known.now u)),
   λ front back x w. absurd (no_element front back x w),
 )
 
