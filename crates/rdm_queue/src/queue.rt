@@ -390,24 +390,22 @@ impl Queue {
         ensures removed { OnSome result (self.new ≡ collects_oldest self.old client.0) }
         ensures none { IfNone result (self.new ≡ self.old) }
     {
-        match self.oldest_outcome(client) {
-            None => None,
-            Some(Oldest::Request { .. }) => {
-                let (number, done) = self.next_completion(client)?;
-                Some(Outcome::Request {
-                    number: Some(number),
-                    done,
-                })
-            }
-            Some(Oldest::Discovery { .. }) => {
-                let mut set = DeviceSet::new();
-                let DiscoveryEnd { number, run, fault } = self.next_discovery(client, &mut set)?;
-                Some(Outcome::Discovery {
-                    number: Some(number),
-                    done: AskCompletion { run, fault, set },
-                })
-            }
+        if let Some((number, done)) = self.next_completion(client) {
+            return Some(Outcome::Request {
+                number: Some(number),
+                done,
+            });
         }
+        // A set is made only for what is there.
+        if self.oldest_outcome(client).is_none() {
+            return None;
+        }
+        let mut set = DeviceSet::new();
+        let DiscoveryEnd { number, run, fault } = self.next_discovery(client, &mut set)?;
+        Some(Outcome::Discovery {
+            number: Some(number),
+            done: AskCompletion { run, fault, set },
+        })
     }
 
     /// Takes a client's oldest outcome out, if that is a request's.

@@ -1,5 +1,4 @@
 //! A list of events, answered one by one.
-use crate::oldest::Oldest;
 use crate::session::Session;
 use rdm_log::{Answer, BoxedOutcome, ClientId, Event};
 use rdm_wire::{DeviceSet, NoMemory};
@@ -58,30 +57,20 @@ impl Session {
         Ok(answers)
     }
 
-    // Collects a client's oldest outcome; None if there is none. Each kind has a function of its own, so that no set
-    // is in the frame of what collects a request's.
+    // Collects a client's oldest outcome; None if there is none. A discovery's has a function of its own, so that no
+    // set is in the frame of what collects a request's.
     // Err: it is a discovery's, and there is no memory for its set; nothing has changed.
     fn collect(&mut self, alloc: Global, client: ClientId) -> Result<Option<BoxedOutcome>, NoMemory>
         ensures adds { GrowsBy self.old (CollectLogs self.old client result) self.new }
         ensures legal { Legal self.new.opening self.new.entries }
     {
-        // The log is legal, even if nothing is collected.
-        self.log();
-        match self.oldest(client) {
-            None => Ok(None),
-            Some(Oldest::Request { .. }) => Ok(self.collect_request(client)),
-            Some(Oldest::Discovery { .. }) => self.collect_discovery(alloc, client),
+        if let Some((number, done)) = self.next_completion(client) {
+            return Ok(Some(BoxedOutcome::Request { number, done }));
         }
-    }
-
-    // Collects a client's oldest outcome, which is a request's.
-    fn collect_request(&mut self, client: ClientId) -> Option<BoxedOutcome>
-        requires oldest { oldest_kind self.old.opening self.old.entries client.0 ≡ Some kinds.Request }
-        ensures adds { GrowsBy self.old (CollectLogs self.old client (Ok result)) self.new }
-        ensures legal { Legal self.new.opening self.new.entries }
-    {
-        let (number, done) = self.next_completion(client)?;
-        Some(BoxedOutcome::Request { number, done })
+        if self.oldest(client).is_none() {
+            return Ok(None);
+        }
+        self.collect_discovery(alloc, client)
     }
 
     // Collects a client's oldest outcome, which is a discovery's. A box, which is allocated first, is exchanged for the
