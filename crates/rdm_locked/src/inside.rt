@@ -361,32 +361,13 @@ impl<L: Ledger> Inside<L> {
         ensures clients { SameClients self.old self.new }
     {
         let mut set = sets.take_unshared()?;
-        let Some(end) = self.collect_into(client, &mut set, mine) else {
-            sets.put_back(set);
-            return None;
-        };
-        Some(BoxedAsk::shared(end.run, end.fault, sets.share(set)))
-    }
-
-    // The same into this set. None: as `collect_discovery` returns, or the set is shared; the set is unchanged.
-    fn collect_into(
-        &mut self,
-        client: ClientId,
-        set: &mut Arc<Box<DeviceSet>>,
-        mine: &mut CallShare<L>,
-    ) -> Option<DiscoveryEnd>
-        requires own { client.0 ≡ mine.old.history.index }
-        ensures collected { IfSome result (λ end.
-            IsCollected client (discovery_outcome end (arc_value set.new).value) self.old mine.old self.new mine.new) }
-        ensures unchanged { IfNone result ((self.new.session ≡ self.old.session) × (mine.new.count ≡ mine.old.count)
-            × (mine.new.history ≡ mine.old.history)) }
-        ensures client { mine.new.history.index ≡ mine.old.history.index }
-        ensures clients { SameClients self.old self.new }
-    {
-        match Arc::get_mut(set) {
-            Some(set) => self.collect_discovery(client, set, mine),
-            None => None,
+        if let Some(own) = Arc::get_mut(&mut set) {
+            if let Some(end) = self.collect_discovery(client, own, mine) {
+                return Some(BoxedAsk::shared(end.run, end.fault, sets.share(set)));
+            }
         }
+        sets.put_back(set);
+        None
     }
 
     /// Pauses, as [`Session::pause`] does.
