@@ -91,7 +91,7 @@ unfoldable pub use Rattle.rdm_lanes.specs.Views.{last_view, last_found, runs_fou
 pub use Rattle.rdm_lanes.specs.body.Counts.{IsCounted}
 pub use Rattle.rdm_lanes.specs.body.Doing.{AreDone, DoesAt, IsMoved, IsServed, MovesFor, StepsAlone}
 pub use Rattle.rdm_lanes.specs.body.Gains.{GainOneAtMost}
-pub use Rattle.rdm_lanes.specs.body.Holding.{HoldsForRequest, HoldsForDiscovery}
+pub use Rattle.rdm_lanes.specs.body.Holding.{HoldsFor}
 pub use Rattle.rdm_lanes.specs.body.Opening.{AreNewWith, HoldNothing}
 pub use Rattle.rdm_lanes.specs.body.Operated.{IsOperated}
 pub use Rattle.rdm_lanes.specs.body.Quiet.{NoExchange, OnlyCollects}

@@ -2,8 +2,8 @@
 use Rattle.rdm_lanes.proofs.Common.{◌≡◌, ℕ, ◌+◌, ◌<◌, Bool, true, false, List, [], ◌∷◌, ◌++◌, length, drop, refl, sym}
 use Rattle.rdm_lanes.proofs.Common.{ap, ◌∙◌, length-append, append-nil, arith, filter, filter-append, length-map}
 use Rattle.rdm_lanes.proofs.Common.{map-append, Global, Producer, Consumer, ClientCall, Request, Kind, OutcomeValue}
-use Rattle.rdm_lanes.proofs.Common.{Held, Submit, Discover, Leave, RingOutcome, Discovery, HoldsForRequest}
-use Rattle.rdm_lanes.proofs.Common.{HoldsForDiscovery, is_work, work_in, value_in, values_in, IsCounted}
+use Rattle.rdm_lanes.proofs.Common.{Held, Submit, Discover, Leave, RingOutcome, Discovery, HoldsFor}
+use Rattle.rdm_lanes.proofs.Common.{is_work, work_in, value_in, values_in, IsCounted}
 use Rattle.rtrb.specs.Ring.{sent as pushed}
 use Rattle.rdm_client.specs.Desks.{without_oldest}
 use Rattle.rdm_lanes.specs.declared.ring_outcome.RingOutcome.TheVariants.{Request as RequestDone}
@@ -33,6 +33,14 @@ pub value_more : (items : List RingOutcome) (item : RingOutcome)
     → values_in (items ++ item ∷ []) ≡ values_in items ++ value_in item ∷ []
 unfolding values_in
 value_more items item = map-append value_in items (item ∷ [])
+
+got_more : (of : OutcomeValue → Bool) (items : List RingOutcome) (item : RingOutcome)
+    → length (filter of (values_in (items ++ item ∷ [])))
+    ≡ length (filter of (values_in items)) + length (filter of (value_in item ∷ []))
+got_more of items item =
+    ap (λ (vs : List OutcomeValue). length (filter of vs)) (value_more items item)
+    ∙ ap length (filter-append of (values_in items) (value_in item ∷ []))
+    ∙ length-append (filter of (values_in items)) (filter of (value_in item ∷ []))
 
 -- the callbacks that are held, after a call more
 module _ {C A : Type 0} where
@@ -70,44 +78,23 @@ module _ {C A : Type 0} where
       }
 
   -- and after an outcome more
-  pub own_request : (calls : List ClientCall) (items : List RingOutcome) (item : RingOutcome) (desk : Held C A)
-      → HoldsForRequest desk item → HoldsItsOwn calls (values_in items) desk.requests desk.asks
+  pub own_more : (wanted : Bool) (calls : List ClientCall) (items : List RingOutcome) (item : RingOutcome)
+      (desk : Held C A) → HoldsFor wanted desk item → HoldsItsOwn calls (values_in items) desk.requests desk.asks
       → HoldsItsOwn calls (values_in (items ++ item ∷ [])) (without_oldest desk (outcome_in item)).requests
       (without_oldest desk (outcome_in item)).asks
-  own_request calls items (Discovery number done) desk held own = absurd held
-  own_request calls items (RequestDone number done) desk held own =
-      let item : RingOutcome = RequestDone number done in
-      let mine = ap length
-      (ap (filter is_of_request) (value_more items item)
-      ∙ filter-append is_of_request (values_in items) (value_in item ∷ []))
-      ∙ length-append (filter is_of_request (values_in items)) (value_in item ∷ []) in
-      let other = ap length
-      (ap (filter is_of_discovery) (value_more items item)
-      ∙ filter-append is_of_discovery (values_in items) (value_in item ∷ [])
-      ∙ append-nil (filter is_of_discovery (values_in items))) in
+  own_more wanted calls items (RequestDone number done) desk held own =
+      let requests = got_more is_of_request items (RequestDone number done) in
+      let asks = got_more is_of_discovery items (RequestDone number done) in
       record {
-        requests_are = omega (arith, mine, own.requests_are, without_one desk.requests held);
-        asks_are = omega (arith, other, own.asks_are);
+        requests_are = omega (arith, requests, own.requests_are, without_one desk.requests held);
+        asks_are = omega (arith, asks, own.asks_are);
       }
-
-  pub own_discovery : (calls : List ClientCall) (items : List RingOutcome) (item : RingOutcome) (desk : Held C A)
-      → HoldsForDiscovery desk item → HoldsItsOwn calls (values_in items) desk.requests desk.asks
-      → HoldsItsOwn calls (values_in (items ++ item ∷ [])) (without_oldest desk (outcome_in item)).requests
-      (without_oldest desk (outcome_in item)).asks
-  own_discovery calls items (RequestDone number done) desk held own = absurd held
-  own_discovery calls items (Discovery number done) desk held own =
-      let item : RingOutcome = Discovery number done in
-      let mine = ap length
-      (ap (filter is_of_discovery) (value_more items item)
-      ∙ filter-append is_of_discovery (values_in items) (value_in item ∷ []))
-      ∙ length-append (filter is_of_discovery (values_in items)) (value_in item ∷ []) in
-      let other = ap length
-      (ap (filter is_of_request) (value_more items item)
-      ∙ filter-append is_of_request (values_in items) (value_in item ∷ [])
-      ∙ append-nil (filter is_of_request (values_in items))) in
+  own_more wanted calls items (Discovery number done) desk held own =
+      let requests = got_more is_of_request items (Discovery number done) in
+      let asks = got_more is_of_discovery items (Discovery number done) in
       record {
-        requests_are = omega (arith, other, own.requests_are);
-        asks_are = omega (arith, mine, own.asks_are, without_one desk.asks held);
+        requests_are = omega (arith, requests, own.requests_are);
+        asks_are = omega (arith, asks, own.asks_are, without_one desk.asks held.1);
       }
 
   -- at first

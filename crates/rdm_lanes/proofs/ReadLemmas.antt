@@ -1,11 +1,10 @@
 -- What clients have read of the published views, and what they found themselves.
 use Rattle.rdm_lanes.proofs.Common.{◌≡◌, ℕ, ◌<◌, ◌≤◌, List, [], ◌∷◌, ◌++◌, length, take, map, fold, Some, refl, sym, ap}
 use Rattle.rdm_lanes.proofs.Common.{◌∙◌, subst, inl, inr, slice_get, length-append, arith, ◌⊎◌, cases_lt, fold-append}
-use Rattle.rdm_lanes.proofs.Common.{map-append, IsPrefix, DeviceView, LogState, OutcomeValue, Ghosts, Held, RingOutcome}
-use Rattle.rdm_lanes.proofs.Common.{Discovery, HoldsForRequest, ClientEnd, value_in, values_in, opening_view, last_view}
+use Rattle.rdm_lanes.proofs.Common.{map-append, IsPrefix, DeviceView, LogState, OutcomeValue, Ghosts, RingOutcome}
+use Rattle.rdm_lanes.proofs.Common.{ClientEnd, value_in, values_in, opening_view, last_view}
 use Rattle.rdm_lanes.proofs.Common.{last_view_run, RisesAbove, AreViews, all_views, found_after, last_found, Publishing}
 use Rattle.rdm_lanes.proofs.Common.{Publishes}
-use Rattle.rdm_lanes.specs.declared.ring_outcome.RingOutcome.TheVariants.{Request}
 use Rattle.rdm_lanes.specs.Publishing.{IsPublished, BeginOne}
 use Rattle.rdm_lanes.proofs.Fronts.{prefix_shorter}
 
@@ -20,12 +19,6 @@ unfolding last_found values_in
 found_more items item =
     ap (λ (vs : List OutcomeValue). fold found_after opening_view vs) (map-append value_in items (item ∷ []))
     ∙ fold-append found_after opening_view (map value_in items) (value_in item ∷ [])
-
--- a request's outcome says nothing of devices
-pub request_finds_nothing : {C A : Type 0} (v : DeviceView) (desk : Held C A) (item : RingOutcome)
-    → HoldsForRequest desk item → found_after v (value_in item) ≡ v
-request_finds_nothing v desk (Request number done) held = refl
-request_finds_nothing v desk (Discovery number done) held = absurd held
 
 -- the last of views whose runs rise
 abbrev last_of : DeviceView → List DeviceView → DeviceView

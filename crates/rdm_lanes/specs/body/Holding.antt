@@ -1,16 +1,17 @@
--- Which callbacks a client holds for an outcome.
-use Rattle.std.specs.Prelude.{◌<◌, length}
+-- Which callbacks a client holds for an outcome, and which outcomes it collects.
+use Rattle.std.specs.Prelude.{◌≡◌, ◌<◌, ⊤, Bool, true, length}
 use Rattle.rdm_client.specs.Desks.{Held}
+use Rattle.rdm_client.specs.declared.told.Collected.{Collected}
+use Rattle.rdm_client.specs.declared.told.Collected.TheVariants as collected
 use Rattle.rdm_lanes.specs.declared.ring_outcome.RingOutcome.{RingOutcome}
 use Rattle.rdm_lanes.specs.declared.ring_outcome.RingOutcome.TheVariants.{Request, Discovery}
 
-module _ {C A : Type 0} where
-  -- the outcome is a request's, and a callback for it is held
-  abbrev pub HoldsForRequest : Held C A → RingOutcome → Type 0
-  HoldsForRequest desk (Request number done) = 0 < length desk.requests
-  HoldsForRequest desk (Discovery number done) = ⊥
+-- a callback for the outcome is held, and it is a request's, or discoveries' are wanted too
+abbrev pub HoldsFor : {C A : Type 0} → Bool → Held C A → RingOutcome → Type 0
+HoldsFor asks desk (Request number done) = 0 < length desk.requests
+HoldsFor asks desk (Discovery number done) = (asks ≡ true) × (0 < length desk.asks)
 
-  -- the outcome is a discovery's, and a callback for it is held
-  abbrev pub HoldsForDiscovery : Held C A → RingOutcome → Type 0
-  HoldsForDiscovery desk (Request number done) = ⊥
-  HoldsForDiscovery desk (Discovery number done) = 0 < length desk.asks
+-- what was collected is a request's, or discoveries' are wanted too
+abbrev pub IsWanted : Bool → Collected → Type 0
+IsWanted asks (collected.Request told) = ⊤
+IsWanted asks (collected.Ask told) = asks ≡ true

@@ -5,7 +5,7 @@ ghost use Rattle.rtrb.specs.Ring.{received as popped, known_items};
 ghost use Rattle.rdm_client.specs.declared.told.Collected.TheVariants.{Request as RequestTold};
 ghost use Rattle.rdm_lanes.specs.declared.call.ClientCall.TheVariants.{Submit, Discover};
 ghost use Rattle.rdm_lanes.specs.declared.fault.RingFault.TheVariants.{RingFull as NoSlot};
-ghost use Rattle.rdm_lanes.specs.body.Holding.{HoldsForRequest, HoldsForDiscovery};
+ghost use Rattle.rdm_lanes.specs.body.Holding.{HoldsFor, IsWanted};
 ghost use Rattle.rdm_lanes.specs.Clients.{SameClient, Collects, HasRead, sent_by, got_by, submit_fault, discover_fault};
 ghost use Rattle.rdm_lanes.specs.Ends.{end_sent, end_got};
 ghost use mathlib.Core.List.{IsPrefix};
@@ -19,7 +19,7 @@ use crate::call::ClientCall;
 use crate::client::RingClient;
 use crate::client::ends::ClientEnd;
 use crate::client::found::{keep_found, later};
-use crate::client::settle::{settle_discovery, settle_request};
+use crate::client::settle::settle;
 use crate::fault::{RingFault, RingFull};
 use crate::ring_outcome::RingOutcome;
 use crate::views::history::ViewHistory;
@@ -107,13 +107,7 @@ impl<J: ViewHistory, C: Tells, A: TellsAsk> RingClient<J, C, A> {
         ensures client { SameClient self.old self.new }
         ensures views { self.new.views ≡ self.old.views }
     {
-        if let Some(told) = self.collect_request() {
-            return Some(Collected::Request(told));
-        }
-        if self.replies.cached_slots() == 0 {
-            return None;
-        }
-        self.collect_discovery()
+        self.collect_wanted(true)
     }
 
     /// Collects the oldest outcome that has come, if it is a request's. None: no outcome has come, it is a discovery's,
@@ -128,20 +122,16 @@ impl<J: ViewHistory, C: Tells, A: TellsAsk> RingClient<J, C, A> {
         ensures client { SameClient self.old self.new }
         ensures views { self.new.views ≡ self.old.views }
     {
-        if self.replies.slots() == 0 || !self.holds_for_request() {
-            return None;
+        match self.collect_wanted(false)? {
+            Collected::Request(told) => Some(told),
+            Collected::Ask(_) => unreachable!(),
         }
-        let item = self.replies.pop_known();
-        self.worker.wake();
-        let told = settle_request(&mut self.desk, item);
-        self.collected += 1;
-        Some(told)
     }
 
-    // Collects the oldest outcome, if it is a discovery's and a callback is held for it.
-    fn collect_discovery(&mut self) -> Option<Collected>
-        requires known { 0 < length (known_items self.old.replies) }
+    // Collects the oldest outcome that has come, as `collect` does; if it is a discovery's, only if `asks` wants it.
+    fn collect_wanted(&mut self, asks: bool) -> Option<Collected>
         ensures got { IfSome result (λ told. Collects C.calls C.tag_of A.calls A.tag_of self.old told self.new) }
+        ensures wanted { IfSome result (λ told. IsWanted asks told) }
         ensures none { IfNone result ((popped self.new.replies ≡ popped self.old.replies)
             × (self.new.desk ≡ self.old.desk)) }
         ensures sent { sent_by self.new ≡ sent_by self.old }
@@ -149,15 +139,15 @@ impl<J: ViewHistory, C: Tells, A: TellsAsk> RingClient<J, C, A> {
         ensures client { SameClient self.old self.new }
         ensures views { self.new.views ≡ self.old.views }
     {
-        if !self.holds_for_discovery() {
+        if self.replies.slots() == 0 || !self.holds_for(asks) {
             return None;
         }
         let item = self.replies.pop_known();
         self.worker.wake();
         keep_found(&mut self.found, &item);
-        let told = settle_discovery(&mut self.desk, item);
+        let collected = settle(&mut self.desk, item);
         self.collected += 1;
-        Some(told)
+        Some(collected)
     }
 
     /// Reads what the worker has published, and lends the devices that the client knows of then: it is
@@ -219,27 +209,15 @@ impl<J: ViewHistory, C: Tells, A: TellsAsk> RingClient<J, C, A> {
         Ok(())
     }
 
-    // Whether the oldest outcome is a request's, and a callback is held for it.
-    fn holds_for_request(&self) -> bool
+    // Whether a callback is held for the oldest outcome, and it is a request's or `asks` wants it.
+    fn holds_for(&self, asks: bool) -> bool
         requires { 0 < length (known_items self.now.replies) }
         ensures { result ≡ true
-            → MatchOption (slice_get (known_items self.now.replies) 0) ⊤ (HoldsForRequest self.now.desk) }
+            → MatchOption (slice_get (known_items self.now.replies) 0) ⊤ (HoldsFor asks self.now.desk) }
     {
         match self.replies.peek_known() {
             RingOutcome::Request { .. } => self.desk.requests_held() > 0,
-            RingOutcome::Discovery { .. } => false,
-        }
-    }
-
-    // Whether the oldest outcome is a discovery's, and a callback is held for it.
-    fn holds_for_discovery(&self) -> bool
-        requires { 0 < length (known_items self.now.replies) }
-        ensures { result ≡ true
-            → MatchOption (slice_get (known_items self.now.replies) 0) ⊤ (HoldsForDiscovery self.now.desk) }
-    {
-        match self.replies.peek_known() {
-            RingOutcome::Request { .. } => false,
-            RingOutcome::Discovery { .. } => self.desk.asks_held() > 0,
+            RingOutcome::Discovery { .. } => asks && self.desk.asks_held() > 0,
         }
     }
 
