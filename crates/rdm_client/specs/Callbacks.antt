@@ -31,7 +31,7 @@ abbrev pub BytesFit : List ℕ → Type 0
 BytesFit bytes = All (λ byte. byte < 2 ^ 8) bytes
 
 -- a request's completion has its numbers in the ranges of their types: those of its reply's head, and its bytes
-pub record Fits (done : Completion) : Type 0 where
+pub record IsInRange (done : Completion) : Type 0 where
   pub reply : HeadFits done.reply
   pub bytes : BytesFit done.bytes.items
 

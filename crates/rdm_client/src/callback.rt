@@ -2,7 +2,7 @@
 ghost use Rattle.std.specs.Prelude.{◌≡◌, ℕ};
 ghost use Rattle.rdm_log.specs.declared.outcome.Completion.{Completion};
 ghost use Rattle.rdm_client.specs.declared.told.Told.{Told};
-ghost use Rattle.rdm_client.specs.Callbacks.{told, BytesFit, Fits, IsCancelled};
+ghost use Rattle.rdm_client.specs.Callbacks.{told, BytesFit, IsInRange, IsCancelled};
 
 use crate::told::Told;
 use rdm_join::Status;
@@ -54,8 +54,8 @@ pub trait Tells {
 pub struct Callback {
     tag: u64,
     closure: Box<dyn FnOnce(Completion) -> Told + Send>,
-    ghost callable: { (c : Completion) → Fits c → pre closure c },
-    ghost tells: { (c : Completion) (t : Told) → Fits c → post closure c t → t ≡ told tag c },
+    ghost callable: { (c : Completion) → IsInRange c → pre closure c },
+    ghost tells: { (c : Completion) (t : Told) → IsInRange c → post closure c t → t ≡ told tag c },
 }
 
 impl Callback {
@@ -63,8 +63,8 @@ impl Callback {
     /// types. It has to return `Told { tag, done }` with this tag and that completion. No test can show this: it is
     /// proved from the closure's code.
     pub fn new(tag: u64, closure: Box<dyn FnOnce(Completion) -> Told + Send>) -> Callback
-        requires callable { (c : Completion) → Fits c → pre closure c }
-        requires tells { (c : Completion) (t : Told) → Fits c → post closure c t → t ≡ told tag c }
+        requires callable { (c : Completion) → IsInRange c → pre closure c }
+        requires tells { (c : Completion) (t : Told) → IsInRange c → post closure c t → t ≡ told tag c }
         ensures tag { result.tag ≡ tag }
         ensures closure { result.closure ≡ closure }
     {

@@ -150,12 +150,12 @@ impl<C: Tells, A: TellsAsk> Desk<C, A> {
         if self.asks.is_empty() {
             return Err((Misdelivered, done));
         }
-        Ok(self.call_oldest_ask(done))
+        Ok(self.settle_held_ask(done))
     }
 
     /// Calls the oldest discovery's callback with how its discovery ended. A discovery's callback must be held, which
     /// [`Desk::asks_held`] tests. Unlike [`Desk::settle_ask`] it has no error that returns the completion.
-    pub fn call_oldest_ask(&mut self, done: BoxedAsk) -> AskTold
+    pub fn settle_held_ask(&mut self, done: BoxedAsk) -> AskTold
         requires held { 0 < length self.old.asks }
         ensures called { OldestCalled A.calls self.old.asks done result }
         ensures told { ask_spent A.tag_of self.old.asks done ≡ Some result }
@@ -187,7 +187,7 @@ impl<C: Tells, A: TellsAsk> Desk<C, A> {
                     return Err((Misdelivered, BoxedOutcome::Discovery { end, set }));
                 }
                 let done = BoxedAsk::new(end.run, end.fault, Some(set));
-                Ok(Collected::Ask(self.call_oldest_ask(done)))
+                Ok(Collected::Ask(self.settle_held_ask(done)))
             }
         }
     }

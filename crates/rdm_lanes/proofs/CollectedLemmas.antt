@@ -9,7 +9,7 @@ use Rattle.rdm_lanes.proofs.Common.{collects_by, collected, uncollected, outstan
 use Rattle.rdm_lanes.proofs.Common.{LogState, grown, Legal, MayFollow, GrowsBy, CollectAdds, OutcomeValue, Discovered}
 use Rattle.rdm_lanes.proofs.Common.{outcome_of, outcome_value, refused_outcome, DiscoveryValue, finishes-append}
 use Rattle.rdm_lanes.proofs.Common.{answered-append, ClientCall, RingOutcome, Lane, work_in, uncollected_values}
-use Rattle.rdm_lanes.proofs.Common.{values_in, value_in, Fits, is_leave}
+use Rattle.rdm_lanes.proofs.Common.{values_in, value_in, LaneFits, is_leave}
 use Rattle.rtrb.specs.Ring.{sent as pushed}
 use Rattle.rdm_log.specs.declared.entry.Call.TheVariants as calls
 use Rattle.rdm_log.specs.declared.outcome.Completion.{Completion}
@@ -173,7 +173,7 @@ collected_fits : (o : Opening) (h : List Entry) (room : ℕ) (gone : ℕ) (keeps
     → outcome_of h x ≡ Some (value_in item)
     → outstanding_requests o d.0 (h ++ Collect d ∷ []) ≡ requests
     → outstanding_discoveries o d.0 (h ++ Collect d ∷ []) ≡ asks
-    → Fits d.0 (record {
+    → LaneFits d.0 (record {
       opening = o;
       entries = h;
       room = room;
@@ -182,7 +182,7 @@ collected_fits : (o : Opening) (h : List Entry) (room : ℕ) (gone : ℕ) (keeps
     }) lane
     → IsNext lane next requests asks
     → pushed next.replies ≡ pushed lane.replies ++ item ∷ []
-    → Fits d.0 (record {
+    → LaneFits d.0 (record {
       opening = o;
       entries = h ++ Collect d ∷ [];
       room = room;
@@ -220,7 +220,7 @@ each_after old new e is legal = subst (λ (k : LogState). EachAfter (MayFollow k
 pub has_request : (old new : LogState) (d : ClientId) (n : ℕ) (done : Completion) (lane : Lane)
     → GrowsBy old (CollectAdds old.opening old.entries d (Some (outcomes.Request (Some n) done))) new
     → Legal new.opening new.entries
-    → Fits d.0 old lane → 1 ≤ lane.requests
+    → LaneFits d.0 old lane → 1 ≤ lane.requests
 has_request old new d n done lane g legal f =
     let adds = g.adds in
     let each = each_after old new (Collect d) (rw adds.1 at g.grows) legal in
@@ -231,7 +231,7 @@ has_request old new d n done lane g legal f =
 pub has_ask : (old new : LogState) (d : ClientId) (n : ℕ) (done : AskCompletion) (lane : Lane)
     → GrowsBy old (CollectAdds old.opening old.entries d (Some (outcomes.Discovery (Some n) done))) new
     → Legal new.opening new.entries
-    → Fits d.0 old lane → 1 ≤ lane.asks
+    → LaneFits d.0 old lane → 1 ≤ lane.asks
 has_ask old new d n done lane g legal f =
     let adds = g.adds in
     let each = each_after old new (Collect d) (rw adds.1 at g.grows) legal in
@@ -246,9 +246,9 @@ pub fits_completion : (old new : LogState) (d : ClientId) (n : ℕ) (done : Comp
     (lane next : Lane)
     → GrowsBy old (CollectAdds old.opening old.entries d (Some (outcomes.Request (Some n) done))) new
     → Legal new.opening new.entries
-    → value_in item ≡ outcome_value (outcomes.Request (Some n) done) → Fits d.0 old lane
+    → value_in item ≡ outcome_value (outcomes.Request (Some n) done) → LaneFits d.0 old lane
     → IsNext lane next (lane.requests - 1) lane.asks → pushed next.replies ≡ pushed lane.replies ++ item ∷ []
-    → Fits d.0 new next
+    → LaneFits d.0 new next
 fits_completion old new d n done item lane next g legal is f isnext replies =
     let adds = g.adds in
     let grows : new ≡ grown old (Collect d ∷ []) = rw adds.1 at g.grows in
@@ -265,9 +265,9 @@ pub fits_discovery : (old new : LogState) (d : ClientId) (n : ℕ) (done : AskCo
     (lane next : Lane)
     → GrowsBy old (CollectAdds old.opening old.entries d (Some (outcomes.Discovery (Some n) done))) new
     → Legal new.opening new.entries
-    → value_in item ≡ outcome_value (outcomes.Discovery (Some n) done) → Fits d.0 old lane
+    → value_in item ≡ outcome_value (outcomes.Discovery (Some n) done) → LaneFits d.0 old lane
     → IsNext lane next lane.requests (lane.asks - 1) → pushed next.replies ≡ pushed lane.replies ++ item ∷ []
-    → Fits d.0 new next
+    → LaneFits d.0 new next
 fits_discovery old new d n done item lane next g legal is f isnext replies =
     let adds = g.adds in
     let grows : new ≡ grown old (Collect d ∷ []) = rw adds.1 at g.grows in

@@ -76,7 +76,7 @@ pub use Rattle.rdm_lanes.specs.Calls.{is_work, call_by}
 unfoldable pub use Rattle.rdm_lanes.specs.Calls.{work_in, calls_by}
 pub use Rattle.rdm_lanes.specs.Clients.{SameClient}
 pub use Rattle.rdm_lanes.specs.Ends.{end_rings, Agrees, AllAgree, AllShowSame, PairUp, end_got}
-pub use Rattle.rdm_lanes.specs.Lanes.{Fits, AllFit, SameLane, SameLanes, FitsBut, is_leave, lane_places}
+pub use Rattle.rdm_lanes.specs.Lanes.{LaneFits, AllFit, SameLane, SameLanes, FitsBut, is_leave, lane_places}
 pub use Rattle.rdm_lanes.specs.Lines.{IsBetweenTurns, SameSwitches, Exchanged, exchange_count, NoCallLost}
 pub use Rattle.rdm_lanes.specs.Opened.{opened_with, AreNew, join_entries}
 pub use Rattle.rdm_lanes.specs.Operators.{switch_of}

@@ -1,13 +1,13 @@
 -- A log whose entries were handed out says what it said.
 use Rattle.rdm_lanes.proofs.Common.{◌≡◌, List, LogState, OperatorCall, Lane}
-use Rattle.rdm_lanes.proofs.Common.{IsBetweenTurns, Fits, AllFit, IsOperated}
+use Rattle.rdm_lanes.proofs.Common.{IsBetweenTurns, LaneFits, AllFit, IsOperated}
 
 -- the same opening and the same entries
 pub record SameHistory (old new : LogState) : Type 0 where
   pub opening : new.opening ≡ old.opening
   pub entries : new.entries ≡ old.entries
 
-fits_on : (old new : LogState) → SameHistory old new → (c : _) (lane : Lane) → Fits c old lane → Fits c new lane
+fits_on : (old new : LogState) → SameHistory old new → (c : _) (lane : Lane) → LaneFits c old lane → LaneFits c new lane
 fits_on old new same c lane f = record {
   calls_are = rw same.entries f.calls_are;
   moved_are = rw (same.opening, same.entries) f.moved_are;

@@ -5,7 +5,7 @@ use Rattle.rdm_lanes.proofs.Common.{⊎_elim, append-nil, length-append, arith, 
 use Rattle.rdm_lanes.proofs.Common.{cases_lt, slice_get_within, get_or_from_slice_get, length-set, length-map}
 use Rattle.rdm_lanes.proofs.Common.{map-append, filter-append, known_items, LogState, Ghosts, ClientCall, Submit}
 use Rattle.rdm_lanes.proofs.Common.{Discover, Leave, RingOutcome, Lane, ClientEnd, is_work, work_in, value_in}
-use Rattle.rdm_lanes.proofs.Common.{values_in, ArePair, Fits, AllFit, is_leave, end_rings, PairUp, Agrees, AllAgree}
+use Rattle.rdm_lanes.proofs.Common.{values_in, ArePair, LaneFits, AllFit, is_leave, end_rings, PairUp, Agrees, AllAgree}
 use Rattle.rdm_lanes.proofs.Common.{AllShowSame}
 use Rattle.rtrb.specs.Ring.{sent as pushed, received as popped}
 use Rattle.rdm_lanes.specs.body.Leaves.{leave_if}
@@ -106,7 +106,7 @@ module _ {J : Type 0} {h : Ghosts J} {C A : Type 0} where
     pub read : (i : ℕ) (lane : Lane) (e : ClientEnd J C A h) → i < at → slice_get lanes i ≡ Some lane
         → slice_get ends i ≡ Some e → lane.left ≡ true → left_in e.calls ≡ []
     pub pairs : (i : ℕ) (lane : Lane) (e : ClientEnd J C A h) → at ≤ i → slice_get lanes i ≡ Some lane
-        → slice_get ends i ≡ Some e → ArePair (end_rings e) lane × Fits i k lane
+        → slice_get ends i ≡ Some e → ArePair (end_rings e) lane × LaneFits i k lane
     pub show_same : AllShowSame before ends
 
   shows_same : (a : ClientEnd J C A h) → ShowsSame a a
@@ -147,7 +147,7 @@ module _ {J : Type 0} {h : Ghosts J} {C A : Type 0} where
     };
   }
 
-  settles : (c : ℕ) (k : LogState) (lane : Lane) (e : ClientEnd J C A h) → Fits c k lane
+  settles : (c : ℕ) (k : LogState) (lane : Lane) (e : ClientEnd J C A h) → LaneFits c k lane
       → pushed e.calls ≡ popped lane.calls ++ left_in e.calls
       → popped e.replies ++ known_items e.replies ≡ pushed lane.replies → Agrees c k e
   settles c k lane e f put got = record {
@@ -156,7 +156,7 @@ module _ {J : Type 0} {h : Ghosts J} {C A : Type 0} where
     got_are = rw (sym (value_parts (popped e.replies) (known_items e.replies)), got) f.moved_are;
   }
 
-  reads : (c : ℕ) (k : LogState) (lane : Lane) (e : ClientEnd J C A h) → Fits c k lane
+  reads : (c : ℕ) (k : LogState) (lane : Lane) (e : ClientEnd J C A h) → LaneFits c k lane
       → pushed e.calls ≡ popped lane.calls ++ left_in e.calls → lane.left ≡ true → left_in e.calls ≡ []
   reads c k lane e f put left =
       nothing_after (work_in (pushed e.calls)) (popped lane.calls) (left_in e.calls) e.left (all_work (pushed e.calls))

@@ -13,7 +13,7 @@ use Rattle.rdm_lanes.proofs.Common.{WorkAdds, WorkLogs, number_or_fault}
 use Rattle.rdm_lanes.proofs.Common.{OutcomeValue, outcome_of, is_closed_refusal, refused_outcome, closed_number, front}
 use Rattle.rdm_lanes.proofs.Common.{finishes-append, answered-append, client_facts, ClientCall, Submit, Discover}
 use Rattle.rdm_lanes.proofs.Common.{RingOutcome, Lane, call_by, calls_by, work_in, told_values, uncollected_values}
-use Rattle.rdm_lanes.proofs.Common.{values_in, value_in, FitsBut, Fits, is_leave, HasRefusalSlot, MayMake}
+use Rattle.rdm_lanes.proofs.Common.{values_in, value_in, FitsBut, LaneFits, is_leave, HasRefusalSlot, MayMake}
 use Rattle.std.proofs.lemmas.List.{take-append-drop}
 use Rattle.rtrb.specs.Ring.{sent as pushed, received as popped}
 use Rattle.rdm_log.specs.log.Entries.{accepted_of, asked_of}
@@ -211,7 +211,7 @@ made : (x : ClientCall) (c : ℕ) (o : Opening) (h : List Entry) (room : ℕ) (g
     → is_quiet e ≡ true → collector_of e ≡ None → call_by c e ≡ Some x → is_closed_refusal c e ≡ false
     → outstanding_requests o c (h ++ e ∷ []) ≡ requests → outstanding_discoveries o c (h ++ e ∷ []) ≡ asks
     → IsNext lane new requests asks → pushed new.replies ≡ pushed lane.replies
-    → Fits c (record {
+    → LaneFits c (record {
       opening = o;
       entries = h ++ e ∷ [];
       room = room;
@@ -234,7 +234,7 @@ made x c o h room gone keeps e lane new requests asks each f quiet collect call 
 fits_accept : (old new : LogState) (d : ClientId) (n : ℕ) (request : Request) (lane next : Lane)
     → new ≡ grown old (Accept d n request ∷ []) → Legal new.opening new.entries
     → FitsBut (Submit request ∷ []) d.0 old lane → IsNext lane next (lane.requests + 1) lane.asks
-    → pushed next.replies ≡ pushed lane.replies → Fits d.0 new next
+    → pushed next.replies ≡ pushed lane.replies → LaneFits d.0 new next
 fits_accept old new d n request lane next is legal f isnext replies =
     let e = Accept d n request in
     let each : EachAfter (MayFollow old.opening) (old.entries ++ e ∷ []) = subst
@@ -250,7 +250,7 @@ fits_accept old new d n request lane next is legal f isnext replies =
 fits_ask : (old new : LogState) (d : ClientId) (n : ℕ) (kind : Kind) (lane next : Lane)
     → new ≡ grown old (Ask d n kind ∷ []) → Legal new.opening new.entries
     → FitsBut (Discover kind ∷ []) d.0 old lane → IsNext lane next lane.requests (lane.asks + 1)
-    → pushed next.replies ≡ pushed lane.replies → Fits d.0 new next
+    → pushed next.replies ≡ pushed lane.replies → LaneFits d.0 new next
 fits_ask old new d n kind lane next is legal f isnext replies =
     let e = Ask d n kind in
     let each : EachAfter (MayFollow old.opening) (old.entries ++ e ∷ []) = subst
@@ -271,7 +271,7 @@ own_refusal d call cause x is = rw (eq-eqb d.0 d.0 refl) is
 fits_refused : (old new : LogState) (d : ClientId) (call : Call) (cause : Cause) (x : ClientCall) (lane next : Lane)
     → new ≡ grown old (Refuse (Some d) call cause ∷ []) → Legal new.opening new.entries
     → refused_call call ≡ Some x → (cause.0 == closed_number call) ≡ false → FitsBut (x ∷ []) d.0 old lane
-    → IsNext lane next lane.requests lane.asks → pushed next.replies ≡ pushed lane.replies → Fits d.0 new next
+    → IsNext lane next lane.requests lane.asks → pushed next.replies ≡ pushed lane.replies → LaneFits d.0 new next
 fits_refused old new d call cause x lane next is legal mine other f isnext replies =
     let e = Refuse (Some d) call cause in
     let each : EachAfter (MayFollow old.opening) (old.entries ++ e ∷ []) = subst
@@ -289,7 +289,7 @@ fits_closed : (old new : LogState) (d : ClientId) (call : Call) (cause : Cause) 
     → refused_call call ≡ Some x → cause.0 ≡ closed_number call → refused_outcome call ≡ Some (value_in item)
     → uncollected old.opening d.0 old.entries ≡ []
     → FitsBut (x ∷ []) d.0 old lane → IsNext lane next lane.requests lane.asks
-    → pushed next.replies ≡ pushed lane.replies ++ item ∷ [] → Fits d.0 new next
+    → pushed next.replies ≡ pushed lane.replies ++ item ∷ [] → LaneFits d.0 new next
 fits_closed old new d call cause x item lane next is legal mine shut tells none f isnext replies =
     let e = Refuse (Some d) call cause in
     let o = old.opening in
@@ -402,7 +402,7 @@ outcome_refused (works.Discover kind) = refl
 fits_after_fault : (old new : LogState) (d : ClientId) (work : Work) (lane next : Lane) (fault : WorkFault)
     → new ≡ grown old (work_refused d work fault ∷ []) → Legal new.opening new.entries
     → (fault ≡ work_faults.Closed → uncollected old.opening d.0 old.entries ≡ [])
-    → FitsBut (bringing work ∷ []) d.0 old lane → AfterFault (kind_of_work work) lane fault next → Fits d.0 new next
+    → FitsBut (bringing work ∷ []) d.0 old lane → AfterFault (kind_of_work work) lane fault next → LaneFits d.0 new next
 fits_after_fault old new d work lane next work_faults.Closed is legal none f after =
     fits_closed old new d (call_of work) _ (bringing work) after.item lane next is legal (refusal_of work)
     (sym (number_of work)) (outcome_refused work ∙ ap (λ v. Some v) (sym after.is)) (none refl) f
@@ -428,7 +428,7 @@ fits_after_fault old new d work lane next work_faults.LogFull is legal none f af
 fits_made : (old new : LogState) (d : ClientId) (work : Work) (lane next : Lane) (r : Result ℕ (WorkFault × Work))
     (block : List Entry) → WorkAdds old.opening old.entries d work (number_or_fault r) block → new ≡ grown old block
     → Legal new.opening new.entries → MayMake d.0 old lane (bringing work) → FitsBut (bringing work ∷ []) d.0 old lane
-    → AfterAnswer (kind_of_work work) lane r next → Fits d.0 new next
+    → AfterAnswer (kind_of_work work) lane r next → LaneFits d.0 new next
 fits_made old new d (works.Submit request) lane next (Ok n) block adds is legal may f after =
     fits_accept old new d n request lane next (rw adds.2 at is) legal f
     (rw after (record { calls_are = refl; requests_are = refl; asks_are = refl; left_is = refl })) (rw after refl)
@@ -442,7 +442,7 @@ fits_made old new d work lane next (Err e) block adds is legal may f after =
 pub fits_work : (old new : LogState) (d : ClientId) (work : Work) (lane next : Lane)
     (r : Result ℕ (WorkFault × Work)) → GrowsBy old (WorkLogs old d work (number_or_fault r)) new
     → is_full_log old ≡ false → Legal new.opening new.entries → MayMake d.0 old lane (bringing work)
-    → FitsBut (bringing work ∷ []) d.0 old lane → AfterAnswer (kind_of_work work) lane r next → Fits d.0 new next
+    → FitsBut (bringing work ∷ []) d.0 old lane → AfterAnswer (kind_of_work work) lane r next → LaneFits d.0 new next
 fits_work old new d work lane next r g free legal may f after =
     fits_made old new d work lane next r g.block (work_adds old d work (number_or_fault r) g.block free g.adds) g.grows
     legal may f after

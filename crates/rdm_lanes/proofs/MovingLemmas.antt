@@ -1,6 +1,6 @@
 -- What a client's outcomes leave, while they are moved.
 use Rattle.rdm_lanes.proofs.Common.{◌≡◌, ◌≢◌, ℕ, true≢false, false, Some, refl, sym, LogState, Lane, IsBetweenTurns}
-use Rattle.rdm_lanes.proofs.Common.{Fits, SameLane, MovesFor, ◌+◌, true, ClientId, GrowsBy, CollectAdds, Legal}
+use Rattle.rdm_lanes.proofs.Common.{LaneFits, SameLane, MovesFor, ◌+◌, true, ClientId, GrowsBy, CollectAdds, Legal}
 use Rattle.rtrb.specs.Ring.{known_free}
 use Rattle.rdm_log.specs.declared.outcome.Outcome.{Outcome}
 use Rattle.rdm_log.specs.declared.outcome.OutcomeKind.TheVariants as kinds
@@ -12,14 +12,14 @@ use Rattle.rdm_lanes.proofs.ServeLemmas.{steps_for_none}
 use Rattle.rdm_lanes.proofs.CollectLemmas.{collects_none, collects_join, collects_switches}
 use Rattle.rdm_lanes.proofs.StepLemmas.{collects, collect_step}
 
-pub moves_none : (c : ℕ) (k : LogState) (lane next : Lane) → Fits c k next → IsBetweenTurns k → SameLane lane next
+pub moves_none : (c : ℕ) (k : LogState) (lane next : Lane) → LaneFits c k next → IsBetweenTurns k → SameLane lane next
     → MovesFor c k lane k next
 moves_none c k lane next f s same = record {
   step = steps_for_none c k lane next f s same;
   collects = collects_none k;
 }
 
-pub moves_same : (c : ℕ) (k : LogState) (lane : Lane) → Fits c k lane → IsBetweenTurns k → MovesFor c k lane k lane
+pub moves_same : (c : ℕ) (k : LogState) (lane : Lane) → LaneFits c k lane → IsBetweenTurns k → MovesFor c k lane k lane
 moves_same c k lane f s = moves_none c k lane lane f s (same_lane lane)
 
 pub moves_nothing : (c : ℕ) (k new : LogState) (lane : Lane) → MayMoveOne c k lane → new ≡ k
@@ -49,7 +49,7 @@ moves_more c a b d x y z p q = record {
 -- one outcome was collected, and put on the ring
 pub moves_one : (old new : LogState) (d : ClientId) (outcome : Outcome) (lane next : Lane)
     → GrowsBy old (CollectAdds old.opening old.entries d (Some outcome)) new → Legal new.opening new.entries
-    → IsBetweenTurns old → Fits d.0 new next → SameLane lane next
+    → IsBetweenTurns old → LaneFits d.0 new next → SameLane lane next
     → known_free lane.replies ≡ known_free next.replies + 1 → MovesOne d.0 old lane true new next
 moves_one old new d outcome lane next adds legal served fits rings slot =
     let step = collect_step old new d outcome adds legal in

@@ -8,7 +8,7 @@ use Rattle.rdm_lanes.proofs.Common.{asks, finishes, answers, sends, cames, trade
 use Rattle.rdm_lanes.proofs.Common.{awaited, is_closed, is_paused, places, LogState, grown, is_full_log, free_entries}
 use Rattle.rdm_lanes.proofs.Common.{Legal, GrowsBy, UnlessFull, slice_get-push, Ghosts, ClientCall, RingOutcome}
 use Rattle.rdm_lanes.proofs.Common.{RingClient, Lane, work_in, calls_by, IsCounted, told_values, uncollected_values}
-use Rattle.rdm_lanes.proofs.Common.{values_in, OperatorCall, switches, effective, IsOperated, IsBetweenTurns, Fits}
+use Rattle.rdm_lanes.proofs.Common.{values_in, OperatorCall, switches, effective, IsOperated, IsBetweenTurns, LaneFits}
 use Rattle.rdm_lanes.proofs.Common.{AllFit, lane_places, Rings, ArePair, client_rings, ClientsPair, join_entries}
 use Rattle.rdm_lanes.proofs.Common.{opened_with, AreNew, AreNewWith, HoldNothing, answered_of, opening_view, runs_found}
 use Rattle.rdm_lanes.proofs.Common.{views_found, all_views, Publishing, NoneLater, Publishes}
@@ -284,7 +284,7 @@ no_exchanges_opened setup keeps room ps =
 
 fits_empty : (c p : ℕ) (setup : Setup) (keeps : Bool) (room : ℕ) (lane : Lane) → popped lane.calls ≡ []
     → pushed lane.replies ≡ [] → lane.requests ≡ 0 → lane.asks ≡ 0 → lane.left ≡ false
-    → Fits c (empty_log setup keeps room) lane
+    → LaneFits c (empty_log setup keeps room) lane
 unfolding work_in calls_by told_values uncollected_values values_in answers_to accepts asks finishes answers collectors
 fits_empty c p setup keeps room lane got pushed_none no_requests no_asks left = record {
   calls_are = rw got refl;

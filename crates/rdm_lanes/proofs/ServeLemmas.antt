@@ -2,8 +2,8 @@
 use Rattle.rdm_lanes.proofs.Common.{◌≡◌, ℕ, Bool, true, false, List, [], ◌∷◌, ◌++◌, refl, sym, ap, ◌∙◌, slice_get}
 use Rattle.rdm_lanes.proofs.Common.{subst, MatchOption, append-nil, length, length-append, arith, ⊤, ◌||◌, list_any}
 use Rattle.rdm_lanes.proofs.Common.{Global, AnyItems, Consumer, SameConsumer, LogState, ClientCall, Submit, Discover}
-use Rattle.rdm_lanes.proofs.Common.{Leave, Lane, is_work, work_in, FitsBut, Fits, SameLane, is_leave, IsBetweenTurns}
-use Rattle.rdm_lanes.proofs.Common.{IsServed, Work}
+use Rattle.rdm_lanes.proofs.Common.{Leave, Lane, is_work, work_in, FitsBut, LaneFits, SameLane, is_leave}
+use Rattle.rdm_lanes.proofs.Common.{IsServed, Work, IsBetweenTurns}
 use Rattle.rtrb.specs.Ring.{sent as pushed, received as popped, ConsumerLooked}
 use Rattle.rdm_log.specs.declared.work.Work.TheVariants as works
 use Rattle.rdm_lanes.specs.body.Serving.{LooksForSlot, StepsFor, bringing}
@@ -53,7 +53,7 @@ pub record SameCounts (old new : Lane) : Type 0 where
   pub requests_are : new.requests ≡ old.requests
   pub asks_are : new.asks ≡ old.asks
 
-pub fits_popped : (c : ℕ) (k : LogState) (lane next : Lane) (x : ClientCall) → Fits c k lane
+pub fits_popped : (c : ℕ) (k : LogState) (lane next : Lane) (x : ClientCall) → LaneFits c k lane
     → popped next.calls ≡ popped lane.calls ++ x ∷ [] → is_work x ≡ true → SameCounts lane next → next.left ≡ lane.left
     → FitsBut (x ∷ []) c k next
 fits_popped c k lane next x f got work same left = record {
@@ -65,8 +65,8 @@ fits_popped c k lane next x f got work same left = record {
   left_is = left ∙ f.left_is ∙ sym (ap (list_any is_leave) got ∙ leave_same (popped lane.calls) x work);
 }
 
-pub fits_left : (c : ℕ) (k : LogState) (lane next : Lane) → Fits c k lane
-    → popped next.calls ≡ popped lane.calls ++ Leave ∷ [] → SameCounts lane next → next.left ≡ true → Fits c k next
+pub fits_left : (c : ℕ) (k : LogState) (lane next : Lane) → LaneFits c k lane
+    → popped next.calls ≡ popped lane.calls ++ Leave ∷ [] → SameCounts lane next → next.left ≡ true → LaneFits c k next
 fits_left c k lane next f got same left = record {
   calls_are = ap work_in got ∙ leave_more (popped lane.calls) ∙ f.calls_are;
   moved_are = rw same.moved_are f.moved_are;
@@ -76,8 +76,8 @@ fits_left c k lane next f got same left = record {
 }
 
 -- the lane of a client from whose ring of calls nothing was popped
-pub fits_looked : (c : ℕ) (k : LogState) (lane next : Lane) → Fits c k lane → popped next.calls ≡ popped lane.calls
-    → SameCounts lane next → next.left ≡ lane.left → Fits c k next
+pub fits_looked : (c : ℕ) (k : LogState) (lane next : Lane) → LaneFits c k lane → popped next.calls ≡ popped lane.calls
+    → SameCounts lane next → next.left ≡ lane.left → LaneFits c k next
 fits_looked c k lane next f got same left = record {
   calls_are = ap work_in got ∙ f.calls_are;
   moved_are = rw same.moved_are f.moved_are;
@@ -86,7 +86,8 @@ fits_looked c k lane next f got same left = record {
   left_is = left ∙ f.left_is ∙ sym (ap (list_any is_leave) got);
 }
 
-pub fits_slot : (c : ℕ) (k : LogState) (lane next : Lane) → Fits c k lane → LooksForSlot lane next → Fits c k next
+pub fits_slot : (c : ℕ) (k : LogState) (lane next : Lane) → LaneFits c k lane → LooksForSlot lane next
+    → LaneFits c k next
 fits_slot c k lane next f look =
     fits_looked c k lane next f (ap (λ (l : Lane). popped l.calls) look.rest)
     (record {
@@ -97,11 +98,11 @@ fits_slot c k lane next f look =
 
 -- the lane, once the worker looked at its calls, and may have looked for a free slot
 pub record IsLookedAt (c : ℕ) (k : LogState) (old new : Lane) : Type 0 where
-  pub fits : Fits c k new
+  pub fits : LaneFits c k new
   pub rings : SameLane old new
   pub received : popped new.calls ≡ popped old.calls
 
-pub looked_at : (c : ℕ) (k : LogState) (lane next : Lane) (calls : Calls) → Fits c k lane
+pub looked_at : (c : ℕ) (k : LogState) (lane next : Lane) (calls : Calls) → LaneFits c k lane
     → ConsumerLooked lane.calls calls → LooksForSlot (record lane { calls = calls }) next → IsLookedAt c k lane next
 looked_at c k lane next calls f look slot = record {
   fits = fits_slot c k mid next
@@ -118,7 +119,8 @@ looked_at c k lane next calls f look slot = record {
     mid = record lane { calls = calls }
 
 -- no call was made, or it is made with a lane that has the same rings
-pub steps_for_none : (c : ℕ) (k : LogState) (lane next : Lane) → Fits c k next → IsBetweenTurns k → SameLane lane next
+pub steps_for_none : (c : ℕ) (k : LogState) (lane next : Lane) → LaneFits c k next → IsBetweenTurns k
+    → SameLane lane next
     → StepsFor c k lane k next
 steps_for_none c k lane next f s rings = record {
   fits = f;

@@ -29,8 +29,8 @@ pub record FitsBut (pending : List ClientCall) (c : ℕ) (k : LogState) (lane : 
   pub left_is : lane.left ≡ list_any is_leave (popped lane.calls)
 
 -- the lane of client c fits the log
-abbrev pub Fits : ℕ → LogState → Lane → Type 0
-Fits c k lane = FitsBut [] c k lane
+abbrev pub LaneFits : ℕ → LogState → Lane → Type 0
+LaneFits c k lane = FitsBut [] c k lane
 
 -- the queue depth of a lane's client
 abbrev pub lane_places : Lane → ℕ
@@ -38,7 +38,7 @@ lane_places lane = lane.places
 
 -- Each lane agrees with the log. The clients that have joined are those of the lanes, and nobody else called anything.
 pub record AllFit (k : LogState) (lanes : List Lane) : Type 0 where
-  pub each : (i : ℕ) (lane : Lane) → slice_get lanes i ≡ Some lane → Fits i k lane
+  pub each : (i : ℕ) (lane : Lane) → slice_get lanes i ≡ Some lane → LaneFits i k lane
   pub clients_are : places k.opening k.entries ≡ map lane_places lanes
   pub nobody_else : (c : ℕ) → length lanes ≤ c → calls_by c k.entries ≡ []
 

@@ -55,12 +55,12 @@ pub record Brings (calls clients : ℕ) (block : List Entry) : Type 0 where
   pub clients_are : length (joins block) ≡ clients
 
 -- what old counts, and this many more, new counts
-pub record Counts (old : LogState) (calls clients : ℕ) (new : LogState) : Type 0 where
+pub record CountsCalls (old : LogState) (calls clients : ℕ) (new : LogState) : Type 0 where
   pub calls_are : count_calls new.entries ≡ count_calls old.entries + calls
   pub clients_are : next_client new.opening new.entries ≡ next_client old.opening old.entries + clients
 
 pub grown_counts : (old : LogState) (Adds : List Entry → Type 0) (new : LogState) (n m : ℕ) → GrowsBy old Adds new
-    → ((block : List Entry) → Adds block → Brings n m block) → Counts old n m new
+    → ((block : List Entry) → Adds block → Brings n m block) → CountsCalls old n m new
 grown_counts old Adds new n m grows brings =
     let b = brings grows.block grows.adds in
     let h = old.entries in

@@ -282,7 +282,7 @@ impl<'a, L: Ledger, C: Tells, A: TellsAsk> LockedClient<'a, L, C, A> {
                 Ok(told) => Some(Collected::Request(told)),
                 Err(_) => unreachable!(),
             },
-            OldestOutcome::Discovery(done) => Some(Collected::Ask(desk.call_oldest_ask(done))),
+            OldestOutcome::Discovery(done) => Some(Collected::Ask(desk.settle_held_ask(done))),
             // If its kind was wanted, no callback is held for it.
             OldestOutcome::Stays(kind) => {
                 *stranded = wanted.unwrap_or(kind) == kind;

@@ -12,9 +12,9 @@ pub mod RunningLemmas
 pub mod HeardLemmas
 pub mod InvariantLemmas
 pub mod DecidedLemmas
-pub mod AgreesSame
-pub mod AgreesWork
-pub mod AgreesRuns
+pub mod DescribesSame
+pub mod DescribesWork
+pub mod DescribesRuns
 pub mod AfterLemmas
 pub mod TakeLemmas
 pub mod AfterFinish

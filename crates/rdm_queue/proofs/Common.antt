@@ -56,7 +56,7 @@ pub use Rattle.rdm_log.proofs.LogLemmas.LegalFacts.{LogFacts, legal_facts, unfin
 pub use Rattle.rdm_log.proofs.LogLemmas.LegalFacts.{later_unsent}
 pub use Rattle.rdm_log.proofs.LogLemmas.PushLemmas.{is_closed-push, is_paused-push, joins-push, sends-push}
 pub use Rattle.rdm_log.proofs.LogLemmas.PushLemmas.{awaited-push, accepts-push, answers-push, asks-push}
-pub use Rattle.rdm_log.proofs.LogLemmas.PushLemmas.{cames-push, collectors-push, finishes-push, unfinished_same}
+pub use Rattle.rdm_log.proofs.LogLemmas.PushLemmas.{cames-push, collectors-push, finishes-push}
 pub use Rattle.rdm_log.proofs.LogLemmas.RunFacts.{run_facts}
 pub use Rattle.rdm_log.proofs.LogLemmas.RunLemmas.{last_run_same, last_begun, entries_before_run_stays, last_run_sent}
 pub use Rattle.rdm_log.proofs.LogLemmas.RunLemmas.{served_stays}
@@ -96,8 +96,8 @@ pub use Rattle.rdm_log.specs.promises.Blocks.{join_refused, work_accepted, work_
 pub use Rattle.rdm_log.specs.promises.InBound.{FaultNeedsClose, AnswersInBound}
 pub use Rattle.rdm_log.specs.promises.Outcomes.{OutcomeValue, completion_value, outcome_value, completion_of}
 pub use Rattle.rdm_log.specs.promises.Outcomes.{outcome_of, discovery_outcome, oldest_kind, request_outcome}
-pub use Rattle.rdm_queue.specs.body.Agrees.{Agrees, oldest_number, StandsAfter, IsPending, RunIs, StandsAmid}
-pub use Rattle.rdm_queue.specs.body.Agrees.{IsNotRunning, IsRunning, AwaitsRequest, AwaitsRun, IsLast, RunGoesOn}
+pub use Rattle.rdm_queue.specs.body.Describes.{Describes, oldest_number, StandsAfter, IsPending, RunIs, StandsAmid}
+pub use Rattle.rdm_queue.specs.body.Describes.{IsNotRunning, IsRunning, AwaitsRequest, AwaitsRun, IsLast, RunGoesOn}
 pub use Rattle.rdm_queue.specs.body.Ending.{answers_oldest, IsEnded, answer_of, answer_value, one_less, HasNothingDue}
 pub use Rattle.rdm_queue.specs.body.Ending.{agent_at_end, devices_after, devices_run_after, stopped_at}
 pub use Rattle.rdm_queue.specs.body.Ending.IsEnded.{ByClose, ByResult, ByRun}

@@ -7,6 +7,6 @@ pub mod Ending
 pub mod Sets
 pub mod Rings
 pub mod Fields
-pub mod Agrees
+pub mod Describes
 pub mod QueueInvariant
 pub mod SessionInvariant

@@ -50,7 +50,7 @@ impl Controller {
     ghost use Rattle.rdm_queue.specs.promises.EachLog.{ForEachLog, AddsToEach, IsSetUp};
     ghost use Rattle.rdm_queue.specs.promises.Oldest.{outcome_shown, kind_shown, flag_shown};
     ghost use Rattle.rdm_log.specs.log.Broken.{oldest_may_be_incomplete};
-    ghost use Rattle.rdm_queue.specs.body.Agrees.{StandsAfter, ForEachBlock, AddsAmid, Ends, FinishesEach};
+    ghost use Rattle.rdm_queue.specs.body.Describes.{StandsAfter, ForEachBlock, AddsAmid, FinishesNext, FinishesEach};
     ghost use Rattle.rdm_queue.specs.body.State.{unended, uncollected, first_fault};
     ghost use Rattle.rdm_log.specs.log.Runs.{known_devices, devices_run, next_run};
     ghost use Rattle.rdm_log.specs.promises.Outcomes.{oldest_kind, request_outcome, discovery_outcome};
@@ -396,7 +396,7 @@ impl Controller {
     /// Ends what is due next, and returns its entry: a Finish or an Answer. None if nothing is due.
     #[inline(always)]
     pub(crate) fn finish_next(&mut self) -> Option<Entry>
-        ensures ended { IfSome result (λ entry. Ends self.old entry self.new) }
+        ensures ended { IfSome result (λ entry. FinishesNext self.old entry self.new) }
         ensures fewer { OnSome result (unended self.new < unended self.old) }
         ensures settled { IfNone result (ForEachBlock self.old (λ o h. StandsAfter o h self.old)
             × (self.new ≡ self.old)) }

@@ -4,7 +4,7 @@ ghost use Rattle.rdm_log.specs.declared.entry.Opening.{Opening};
 ghost use Rattle.rdm_log.specs.declared.entry.Entry.{Entry};
 ghost use Rattle.rdm_log.specs.log.Legal.{Legal};
 ghost use Rattle.rdm_log.specs.promises.Promised.{LegalPromised};
-ghost use Rattle.rdm_queue.specs.body.Agrees.{StandsAfter};
+ghost use Rattle.rdm_queue.specs.body.Describes.{StandsAfter};
 ghost use Rattle.rdm_queue.specs.body.State.{QueueState};
 
 /// Each log that describes a controller's state (`StandsAfter`) is legal, so clients have all that they are promised

@@ -57,7 +57,7 @@ impl Session {
     ghost use Rattle.rdm_queue.specs.promises.BadUids.{AreBadUids, HasMoreBadUids};
     ghost use Rattle.rdm_queue.specs.promises.Oldest.{outcome_shown, kind_shown, flag_shown};
     ghost use Rattle.rdm_log.specs.log.Broken.{oldest_may_be_incomplete};
-    ghost use Rattle.rdm_queue.specs.body.Agrees.{StandsAfter};
+    ghost use Rattle.rdm_queue.specs.body.Describes.{StandsAfter};
 
     /// A session without clients, neither paused nor closed. Its discovery runs are numbered from 1, and all else from
     /// 0. With a [`Config`](crate::Config) alone its runs search steadily; a [`Setup`](crate::Setup) also says how they

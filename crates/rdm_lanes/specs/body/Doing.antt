@@ -7,7 +7,7 @@ use Rattle.rdm_log.specs.log.LogState.{LogState, is_full_log}
 use Rattle.rdm_log.specs.promises.Outcomes.{oldest_kind}
 use Rattle.rdm_lanes.specs.declared.worker.Worker.{Worker}
 use Rattle.rdm_lanes.specs.declared.worker.lane.Lane.{Lane}
-use Rattle.rdm_lanes.specs.Lanes.{Fits, SameLanes}
+use Rattle.rdm_lanes.specs.Lanes.{LaneFits, SameLanes}
 use Rattle.rdm_lanes.specs.Lines.{IsBetweenTurns, SameSwitches}
 use Rattle.rdm_lanes.specs.body.Quiet.{NoExchange, OnlyCollects}
 use Rattle.rdm_lanes.specs.body.Serving.{MayMake, StepsFor}
@@ -29,7 +29,7 @@ pub record MovesFor (c : ℕ) (old : LogState) (lane : Lane) (new : LogState) (n
 
 -- an outcome of client c may be moved to its ring: a slot is free
 pub record MayMoveOne (c : ℕ) (k : LogState) (lane : Lane) : Type 0 where
-  pub fits : Fits c k lane
+  pub fits : LaneFits c k lane
   pub served : IsBetweenTurns k
   pub slot : 0 < known_free lane.replies
 

@@ -19,7 +19,7 @@ use Rattle.rdm_lanes.specs.declared.call.ClientCall.TheVariants.{Submit, Discove
 use Rattle.rdm_lanes.specs.declared.ring_outcome.RingOutcome.{RingOutcome}
 use Rattle.rdm_lanes.specs.declared.worker.lane.Lane.{Lane}
 use Rattle.rdm_lanes.specs.Calls.{calls_by}
-use Rattle.rdm_lanes.specs.Lanes.{Fits, FitsBut, SameLane}
+use Rattle.rdm_lanes.specs.Lanes.{LaneFits, FitsBut, SameLane}
 use Rattle.rdm_lanes.specs.Lines.{SameSwitches, IsBetweenTurns}
 use Rattle.rdm_lanes.specs.Told.{value_in, told_values, uncollected_values}
 use Rattle.rdm_lanes.specs.body.Quiet.{NoExchange}
@@ -36,7 +36,7 @@ pub record IsOnlyTold (c : ℕ) (old new : LogState) : Type 0 where
 
 -- Only client c called or collected anything from old to new. Its lane, which was `lane` and is `next`, fits the log.
 pub record StepsFor (c : ℕ) (old : LogState) (lane : Lane) (new : LogState) (next : Lane) : Type 0 where
-  pub fits : Fits c new next
+  pub fits : LaneFits c new next
   pub served : IsBetweenTurns new
   pub others : (d : ℕ) → d ≢ c → IsOnlyTold d old new
   pub line : NoExchange old new

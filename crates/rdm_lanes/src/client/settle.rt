@@ -20,6 +20,6 @@ pub fn settle<C: Tells, A: TellsAsk>(desk: &mut Desk<C, A>, item: RingOutcome) -
             Ok(told) => Collected::Request(told),
             Err(_) => unreachable!(),
         },
-        RingOutcome::Discovery { number: _, done } => Collected::Ask(desk.call_oldest_ask(done)),
+        RingOutcome::Discovery { number: _, done } => Collected::Ask(desk.settle_held_ask(done)),
     }
 }

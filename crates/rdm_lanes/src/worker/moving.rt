@@ -3,7 +3,7 @@ ghost use Rattle.std.specs.Prelude.{◌≡◌, ◌≢◌, Some};
 ghost use Rattle.rdm_log.specs.declared.outcome.OutcomeKind.TheVariants as kinds;
 ghost use Rattle.rdm_log.specs.promises.Outcomes.{oldest_kind};
 ghost use Rattle.rdm_lanes.specs.Lines.{IsBetweenTurns};
-ghost use Rattle.rdm_lanes.specs.Lanes.{Fits};
+ghost use Rattle.rdm_lanes.specs.Lanes.{LaneFits};
 ghost use Rattle.rdm_lanes.specs.body.Doing.{DoesFor, IsMoved, MayMoveOne, MovesOne};
 ghost use Rattle.rdm_lanes.specs.body.Quiet.{OnlyCollects};
 
@@ -19,7 +19,7 @@ use std::alloc::Global;
 /// the set of a discovery fails, that outcome waits.
 #[tactic(auto, using(crate::proofs::MovingLemmas::moves_same))]
 pub fn move_outcomes(alloc: Global, session: &mut Session, client: ClientId, lane: &mut Lane)
-    requires fits { Fits client.0 session.old lane.old }
+    requires fits { LaneFits client.0 session.old lane.old }
     requires served { IsBetweenTurns session.old }
     ensures { DoesFor OnlyCollects IsMoved client.0 session.old lane.old session.new lane.new }
 {

@@ -6,7 +6,7 @@ ghost use Rattle.rdm_log.specs.log.History.{places};
 ghost use Rattle.rdm_lanes.specs.body.Doing.{DoesFor, IsServed, MayNotMakeNext};
 ghost use Rattle.rdm_lanes.specs.body.Quiet.{NoExchange};
 ghost use Rattle.rdm_lanes.specs.Lines.{IsBetweenTurns};
-ghost use Rattle.rdm_lanes.specs.Lanes.{Fits, SameLane};
+ghost use Rattle.rdm_lanes.specs.Lanes.{LaneFits, SameLane};
 ghost use Rattle.rdm_lanes.specs.body.Serving.{IsReadyFor, StepsFor, HasRefusalSlot, MayMake, LooksForSlot};
 ghost use Rattle.rdm_lanes.specs.body.Serving.{AfterAnswer, FitsAnswer, bringing, kind_of_work, refused_value};
 ghost use Rattle.rdm_lanes.specs.Told.{value_in};
@@ -25,7 +25,7 @@ use std::alloc::Global;
 #[tactic(auto, using(crate::proofs::LineLemmas::line_same))]
 pub fn serve_call(alloc: Global, session: &mut Session, client: ClientId, lane: &mut Lane)
     requires known { slice_get (places session.old.opening session.old.entries) client.0 ≡ Some lane.old.places }
-    requires fits { Fits client.0 session.old lane.old }
+    requires fits { LaneFits client.0 session.old lane.old }
     requires served { IsBetweenTurns session.old }
     ensures { DoesFor NoExchange IsServed client.0 session.old lane.old session.new lane.new }
 {

@@ -3,14 +3,14 @@ use Rattle.rdm_queue.proofs.Common.{◌≡◌, true, false, List, [], ◌∷◌,
 use Rattle.rdm_queue.proofs.Common.{arith, ◌≢◌, ◌⊎◌, ℕ, inl, inr, false≢true, none-some, LineEvent, Judged, Sent}
 use Rattle.rdm_queue.proofs.Common.{verdict, Joined, result_of, JoinerStanding, StandsAt, next_op, End, Opening, Entry}
 use Rattle.rdm_queue.proofs.Common.{Came, Close, Awaited, sends, verdicts, result, awaited, is_closed, QueueState}
-use Rattle.rdm_queue.proofs.Common.{StandingAt, hears_run, AwaitsRequest, IsPending, oldest_number, Agrees, StandsAfter}
+use Rattle.rdm_queue.proofs.Common.{StandingAt, hears_run, AwaitsRequest, IsPending, oldest_number, Describes}
 use Rattle.rdm_queue.proofs.Common.{StandsAmid, pushed, joins-push, is_paused-push, is_closed-push, LogFacts, IsAwaited}
-use Rattle.rdm_queue.proofs.Common.{IsRunAwaited, legal_facts, unfinished_number}
+use Rattle.rdm_queue.proofs.Common.{IsRunAwaited, legal_facts, unfinished_number, StandsAfter}
 use Rattle.rdm_queue.specs.declared.pending.Awaited.TheVariants as awaiting
 use Rattle.rdm_queue.specs.body.State.{Hears, HearsRequest}
-use Rattle.rdm_queue.proofs.BodyLemmas.AgreesSame.{same_work, stands_same}
-use Rattle.rdm_queue.proofs.BodyLemmas.AgreesWork.{stands_came, last_owner}
-use Rattle.rdm_queue.proofs.BodyLemmas.AgreesRuns.{stands_run_came}
+use Rattle.rdm_queue.proofs.BodyLemmas.DescribesSame.{same_work, stands_same}
+use Rattle.rdm_queue.proofs.BodyLemmas.DescribesWork.{stands_came, last_owner}
+use Rattle.rdm_queue.proofs.BodyLemmas.DescribesRuns.{stands_run_came}
 
 -- a close
 pub close_amid : (o : Opening) (h : List Entry) (s : QueueState) → is_closed o h ≡ false → StandsAfter o h s
@@ -66,7 +66,7 @@ came_amid o h s new event waits hears hears_by_run after = record {
     pending : (w : Option Awaited) → s.awaited ≡ w → IsPending o h s w
     pending w is = subst (λ q. IsPending o h s q) is after.stands.awaited_is
 
-    by_awaited : (w : Option Awaited) → s.awaited ≡ w → Agrees o (h ++ Came event ∷ []) new
+    by_awaited : (w : Option Awaited) → s.awaited ≡ w → Describes o (h ++ Came event ∷ []) new
     by_awaited None is = absurd (false≢true (sym (pending None is) ∙ waits))
     by_awaited (Some (awaiting.Request sent)) is =
         let before = open_standing (result_of (verdicts (oldest_number o h) h)) (verdicts (oldest_number o h) h)

@@ -13,7 +13,7 @@ use Rattle.rdm_queue.proofs.Common.{join_refused, work_refused, work_accepted, O
 use Rattle.rdm_queue.proofs.Common.{first_join_fault, first_fault, number_for, work_fault, outstanding}
 use Rattle.rdm_queue.proofs.Common.{outstanding_asks, is_discovery, owed_to, joins_client, accepts_work}
 use Rattle.rdm_queue.proofs.Common.{collects_oldest, first_kind, kind_of_value, sent_for, IsPending}
-use Rattle.rdm_queue.proofs.Common.{Agrees, StandsAfter, empty, LogFacts, legal_facts, ClientFacts, client_facts}
+use Rattle.rdm_queue.proofs.Common.{Describes, StandsAfter, empty, LogFacts, legal_facts, ClientFacts, client_facts}
 use Rattle.rdm_queue.proofs.Common.{AskFacts, ask_facts, joins-push, is_paused-push, is_closed-push, answers_passed}
 use Rattle.rdm_wire.specs.declared.request.ReqClass.{ReqClass}
 use Rattle.rdm_wire.specs.declared.request.ReqClass.TheVariants as requests
@@ -36,8 +36,8 @@ use Rattle.rdm_log.proofs.LogLemmas.KeepsLegal.{join_keeps, refuse_keeps, collec
 use Rattle.rdm_log.proofs.LogLemmas.KeepsLegal.{accept_keeps, ask_keeps}
 unfoldable use Rattle.rdm_log.specs.log.Broken.{after_entries}
 use Rattle.rdm_queue.proofs.BodyLemmas.InvariantLemmas.{none_owed_more}
-use Rattle.rdm_queue.proofs.BodyLemmas.AgreesSame.{SameWork, same_work, stands_same}
-use Rattle.rdm_queue.proofs.BodyLemmas.AgreesWork.{stands_accept, stands_ask, stands_collect}
+use Rattle.rdm_queue.proofs.BodyLemmas.DescribesSame.{SameWork, same_work, stands_same}
+use Rattle.rdm_queue.proofs.BodyLemmas.DescribesWork.{stands_accept, stands_ask, stands_collect}
 
 facts_after : (o : Opening) (h : List Entry) (s : QueueState) → StandsAfter o h s → LogFacts o h
 facts_after o h s after = legal_facts o h after.legal.each
@@ -86,7 +86,7 @@ first_after setup = record {
 }
 
 -- a join
-pub join_fault_is : (o : Opening) (h : List Entry) (s : QueueState) (n : ℕ) → Agrees o h s
+pub join_fault_is : (o : Opening) (h : List Entry) (s : QueueState) (n : ℕ) → Describes o h s
     → first_join_fault s n ≡ join_fault o h n
 join_fault_is o h s n stands = rw (stands.closed_is, stands.places_are, stands.greatest_is) refl
 

@@ -25,7 +25,7 @@ use Rattle.rdm_queue.specs.promises.Oldest.{outcome_shown, kind_shown, flag_show
 use Rattle.rdm_queue.specs.body.Rings.{value_shown}
 use Rattle.rdm_queue.specs.body.State.{kind_of_value}
 use Rattle.rdm_queue.proofs.BodyLemmas.EndLemmas.{ends_amid, ends_in_bound_amid, settled_after}
-use Rattle.rdm_queue.specs.body.Agrees.{ForEachBlock, Ends, FinishesAll}
+use Rattle.rdm_queue.specs.body.Describes.{ForEachBlock, FinishesNext, FinishesAll}
 use Rattle.rdm_queue.specs.promises.EachLog.{ForEachLog, StandsWith, AddsToEach}
 use Rattle.rdm_agent.proofs.Pushes.{All-push}
 use Rattle.rdm_queue.proofs.BodyLemmas.TakeLemmas.{take_after, none_after}
@@ -195,7 +195,7 @@ is_end s new entry (ByResult e) = rw e.finishes.entry_is refl
 is_end s new entry (ByClose e) = rw e.answers.entry_is refl
 
 pub ends_each : (r : Option Entry) (s new : QueueState) → IfSome r (λ entry. IsEnded s entry new)
-    → IfSome r (λ entry. Ends s entry new)
+    → IfSome r (λ entry. FinishesNext s entry new)
 ends_each None s new is = tt
 ends_each (Some entry) s new is = record {
   is = is_end s new entry is;
@@ -232,7 +232,7 @@ EndedSoFar k s =
 
 -- an entry more of what was due
 pub one_more_ended : (k : LogState) (r : Option Entry) (s new : QueueState) → is_some r ≡ true
-    → IfSome r (λ entry. Ends s entry new) → EndedSoFar k s → EndedSoFar k new
+    → IfSome r (λ entry. FinishesNext s entry new) → EndedSoFar k s → EndedSoFar k new
 one_more_ended k None s new some ends so_far = absurd (false≢true some)
 one_more_ended k (Some entry) s new some ends so_far =
     let here = ends.each (grown k so_far.0) so_far.3 in (

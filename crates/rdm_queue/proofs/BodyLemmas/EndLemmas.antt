@@ -10,7 +10,7 @@ use Rattle.rdm_queue.proofs.Common.{unfinished, unanswered, has_begun, entries_b
 use Rattle.rdm_queue.proofs.Common.{asked_before, run_kind, known_at_run, run_exchanges, MayAnswer, FaultNeedsClose}
 use Rattle.rdm_queue.proofs.Common.{QueueState, RunState, due, end_of_oldest, owed_next, owed_for, is_closing}
 use Rattle.rdm_queue.proofs.Common.{stopped_at, agent_at_end, answer_of, HasNothingDue, IsEnded, ByRun, ByResult}
-use Rattle.rdm_queue.proofs.Common.{ByClose, IsRunning, IsNotRunning, RunIs, RunGoesOn, oldest_number, Agrees}
+use Rattle.rdm_queue.proofs.Common.{ByClose, IsRunning, IsNotRunning, RunIs, RunGoesOn, oldest_number, Describes}
 use Rattle.rdm_queue.proofs.Common.{StandsAfter, StandsAmid, pushed, all_from_indices, answers-push, sends-push}
 use Rattle.rdm_queue.proofs.Common.{LogFacts, legal_facts, later_unsent, unfinished_number, ask_facts, client_facts}
 use Rattle.rdm_queue.proofs.Common.{last_run_same, agent_goes_on, some_at, asked_stays, asked_fewer, all_unserved}
@@ -25,8 +25,8 @@ use Rattle.rdm_log.specs.promises.InBound.{IsCalmOrNoisy}
 use Rattle.rdm_queue.specs.body.Ending.{AnswersUnserved, NothingToEnd}
 use Rattle.rdm_log.proofs.LogLemmas.ExchangeLemmas.{result_unsent}
 use Rattle.rdm_queue.proofs.BodyLemmas.AfterLemmas.{pending_flag}
-use Rattle.rdm_queue.proofs.BodyLemmas.AgreesRuns.{not_stopped, answers_with, stands_answer, known_kept, run_after}
-use Rattle.rdm_queue.proofs.BodyLemmas.AgreesRuns.{exchanges_answered}
+use Rattle.rdm_queue.proofs.BodyLemmas.DescribesRuns.{not_stopped, answers_with, stands_answer, known_kept, run_after}
+use Rattle.rdm_queue.proofs.BodyLemmas.DescribesRuns.{exchanges_answered}
 use Rattle.rdm_queue.proofs.BodyLemmas.RunningLemmas.{left_pushed}
 use Rattle.rdm_queue.proofs.BodyLemmas.TakeLemmas.{not_running, running, run_opened}
 use Rattle.rdm_queue.proofs.BodyLemmas.EndRequests.{undecided, finish_amid}
@@ -54,7 +54,8 @@ none_waits s closing none = by_end (none_due (end_of_oldest s) s.waiting none)
     by_end (inl empty) = empty
     by_end (inr end) = absurd (closing_end s.decided (is_closing s) closing end)
 
-closed_of : (o : Opening) (h : List Entry) (s : QueueState) → is_closing s ≡ true → Agrees o h s → is_closed o h ≡ true
+closed_of : (o : Opening) (h : List Entry) (s : QueueState) → is_closing s ≡ true → Describes o h s
+    → is_closed o h ≡ true
 closed_of o h s closing stands = sym stands.closed_is ∙ and_left s.closed (not (is_some s.awaited)) closing
 
 idle_of : (s : QueueState) → is_closing s ≡ true → is_some s.awaited ≡ false

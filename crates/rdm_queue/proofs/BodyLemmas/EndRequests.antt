@@ -5,14 +5,14 @@ use Rattle.rdm_queue.proofs.Common.{false≢true, none-some, same_Some, FailedTo
 use Rattle.rdm_queue.proofs.Common.{ended, or_if_open, JoinerStanding, Opening, Entry, Awaited, Accepted, verdicts}
 use Rattle.rdm_queue.proofs.Common.{result, unfinished, FitsResult, completion_of, QueueState, OwedOutcome, owed_for}
 use Rattle.rdm_queue.proofs.Common.{finish_of, finishes_oldest, end_of_oldest, owed_next, due, GivesResult, StandingAt}
-use Rattle.rdm_queue.proofs.Common.{IsStanding, AwaitsRun, IsPending, oldest_number, Agrees, StandsAmid, pushed}
+use Rattle.rdm_queue.proofs.Common.{IsStanding, AwaitsRun, IsPending, oldest_number, Describes, StandsAmid, pushed}
 use Rattle.rdm_queue.proofs.Common.{LogFacts, legal_facts, unfinished_number, client_facts, all_unserved}
 use Rattle.rdm_queue.specs.declared.pending.Awaited.TheVariants as awaiting
 use Rattle.rdm_log.specs.log.MayFinish.{MayFinish, IsClosing}
 use Rattle.rdm_queue.proofs.BodyLemmas.DecidedLemmas.{result_complete, gives_complete, gives_fits}
 use Rattle.rdm_queue.proofs.BodyLemmas.AfterLemmas.{pending_flag}
 use Rattle.rdm_queue.proofs.BodyLemmas.AfterFinish.{open_standing, awaited_open}
-use Rattle.rdm_queue.proofs.BodyLemmas.AgreesWork.{stands_finish}
+use Rattle.rdm_queue.proofs.BodyLemmas.DescribesWork.{stands_finish}
 use Rattle.rdm_queue.proofs.BodyLemmas.TakeLemmas.{not_running}
 
 -- the state of the oldest request, if it isn't decided
@@ -81,7 +81,7 @@ ends_unsent o h n done closing open_ is = record {
 }
 
 ends_right : (o : Opening) (h : List Entry) (s : QueueState) (n : ℕ) (done : Joined) → n ≡ oldest_number o h
-    → Agrees o h s → s.run ≡ None → (decided : Option Joined) → s.decided ≡ decided
+    → Describes o h s → s.run ≡ None → (decided : Option Joined) → s.decided ≡ decided
     → or_if_open decided (if s.closed && not (is_some s.awaited) then Some (ended FailedToSend) else None) ≡ Some done
     → EndsRight o h n done
 unfolding result
@@ -110,7 +110,7 @@ ends_right o h s n done number stands none None is end =
     closes = closes_unsent s.closed (is_some s.awaited) done end
 
 -- and no reply is awaited then
-idle_at_end : (o : Opening) (h : List Entry) (s : QueueState) (done : Joined) → LogFacts o h → Agrees o h s
+idle_at_end : (o : Opening) (h : List Entry) (s : QueueState) (done : Joined) → LogFacts o h → Describes o h s
     → s.run ≡ None → end_of_oldest s ≡ Some done → s.awaited ≡ None
 idle_at_end o h s done facts stands none end = by_awaited s.awaited refl
   where

@@ -9,7 +9,7 @@ use Rattle.rdm_queue.proofs.Common.{entries_before_run, last_run, is_answered, a
 use Rattle.rdm_queue.proofs.Common.{run_devices, run_kind, known_at_run, answer_devices, MayAnswer, QueueState}
 use Rattle.rdm_queue.proofs.Common.{RunState, is_closing, stopped_at, agent_at_end, answer_of, one_less, devices_after}
 use Rattle.rdm_queue.proofs.Common.{devices_run_after, AwaitsRequest, AwaitsRun, IsPending, IsRunning, RunIs}
-use Rattle.rdm_queue.proofs.Common.{oldest_number, Agrees, StandsAmid, pushed, all_from_indices, slice_get-drop}
+use Rattle.rdm_queue.proofs.Common.{oldest_number, Describes, StandsAmid, pushed, all_from_indices, slice_get-drop}
 use Rattle.rdm_queue.proofs.Common.{answers-push, sends-push, is_closed-push, awaited-push, ask_facts}
 use Rattle.rdm_queue.proofs.Common.{unanswered_index, client_facts, run_facts, last_begun, last_run_same, served_stays}
 use Rattle.rdm_queue.proofs.Common.{entries_before_run_stays, some_at, asked_stays}
@@ -23,9 +23,9 @@ use Rattle.rdm_log.proofs.LogLemmas.Indices.{slice_get-push, IsPushed, slice_get
 use Rattle.rdm_log.proofs.LogLemmas.PushLemmas.{asks-append, answered-append}
 use Rattle.rdm_log.proofs.LogLemmas.AgentLemmas.{agent_shows, agent_found}
 use Rattle.rdm_queue.proofs.BodyLemmas.AfterLemmas.{pending_flag}
-use Rattle.rdm_queue.proofs.BodyLemmas.AgreesWork.{was_sent_own}
-use Rattle.rdm_queue.proofs.BodyLemmas.AgreesRuns.{not_stopped, answers_with, stands_answer, known_after, run_after}
-use Rattle.rdm_queue.proofs.BodyLemmas.AgreesRuns.{exchanges_answered}
+use Rattle.rdm_queue.proofs.BodyLemmas.DescribesWork.{was_sent_own}
+use Rattle.rdm_queue.proofs.BodyLemmas.DescribesRuns.{not_stopped, answers_with, stands_answer, known_after, run_after}
+use Rattle.rdm_queue.proofs.BodyLemmas.DescribesRuns.{exchanges_answered}
 use Rattle.rdm_queue.proofs.BodyLemmas.TakeLemmas.{running}
 use Rattle.rdm_log.proofs.LogLemmas.BegunLemmas.{before_front}
 
@@ -44,7 +44,7 @@ pub and_right : (a b : Bool) → (a && b) ≡ true → b ≡ true
 and_right true b is = is
 and_right false b is = absurd (false≢true is)
 
-pub at_end : (o : Opening) (h : List Entry) (s : QueueState) (r : RunState) → IsRunning o h s r → Agrees o h s
+pub at_end : (o : Opening) (h : List Entry) (s : QueueState) (r : RunState) → IsRunning o h s r → Describes o h s
     → AtEnd o h s r
 at_end o h s r run stands = by_closing (is_closing s) refl
   where
@@ -113,7 +113,7 @@ and_false : (a : Bool) → (a && false) ≡ false
 and_false true = refl
 and_false false = refl
 
-pub idle_by_run : (o : Opening) (h : List Entry) (s : QueueState) (r : RunState) → IsRunning o h s r → Agrees o h s
+pub idle_by_run : (o : Opening) (h : List Entry) (s : QueueState) (r : RunState) → IsRunning o h s r → Describes o h s
     → next_op (agent_at_end s) ≡ ops.End → s.awaited ≡ None
 idle_by_run o h s r run stands end = by_awaited s.awaited refl
   where

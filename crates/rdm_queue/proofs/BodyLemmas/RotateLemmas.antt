@@ -6,7 +6,7 @@ use Rattle.rdm_queue.proofs.Common.{none-some, length-drop, Opening, Entry, Awai
 use Rattle.rdm_queue.proofs.Common.{sends, cames, finishes, answers, collectors, traded, of_request, verdicts}
 use Rattle.rdm_queue.proofs.Common.{is_request, awaited, is_paused, is_closed, is_idle, unfinished, unanswered}
 use Rattle.rdm_queue.proofs.Common.{answers_to, last_run, open_run, OutcomeValue, QueueState, RunState, IsPending}
-use Rattle.rdm_queue.proofs.Common.{RunIs, Agrees, StandsAfter, oldest_number, SessionInvariant, empty, LogFacts}
+use Rattle.rdm_queue.proofs.Common.{RunIs, Describes, StandsAfter, oldest_number, SessionInvariant, empty, LogFacts}
 use Rattle.rdm_queue.proofs.Common.{legal_facts, IsAwaited, IsRunAwaited, run_facts, verdicts_unsent, asked_fewer}
 use Rattle.rdm_log.specs.declared.entry.Owner.TheVariants as owners
 use Rattle.rdm_queue.specs.declared.pending.Awaited.TheVariants as awaiting
@@ -19,7 +19,7 @@ unfoldable use Rattle.rdm_log.specs.log.Broken.{after_entries}
 use Rattle.rdm_queue.proofs.BodyLemmas.AfterLemmas.{none_owed_after}
 use Rattle.rdm_queue.specs.body.State.{opening_of, uncollected}
 use Rattle.rdm_queue.proofs.BodyLemmas.OutstandingLemmas.{in_all, in_all-cons}
-use Rattle.rdm_queue.proofs.BodyLemmas.AgreesWork.{none_sent}
+use Rattle.rdm_queue.proofs.BodyLemmas.DescribesWork.{none_sent}
 use Rattle.rdm_queue.proofs.BodyLemmas.RunningLemmas.{none_before}
 
 -- nothing is left
@@ -48,7 +48,7 @@ at_rest h idle =
     by_parts false b c p q r all = absurd (false≢true all)
 
 -- no run has begun that has an answer left to give
-pub no_run : (o : Opening) (h : List Entry) (s : QueueState) → IsAtRest h → Agrees o h s → s.run ≡ None
+pub no_run : (o : Opening) (h : List Entry) (s : QueueState) → IsAtRest h → Describes o h s → s.run ≡ None
 no_run o h s rest stands = by_run s.run refl stands.run_is
   where
     by_run : (run : Option RunState) → s.run ≡ run → RunIs o h s run → s.run ≡ None
@@ -99,7 +99,7 @@ none_in [] c none = refl
 none_in (ds ∷ lists) zero none = no_items ds (omega (arith, in_all-cons ds lists))
 none_in (ds ∷ lists) (suc c) none = none_in lists c (omega (arith, in_all-cons ds lists))
 
-none_owed : (o : Opening) (h : List Entry) (s : QueueState) → IsAtRest h → Agrees o h s → uncollected s ≡ 0
+none_owed : (o : Opening) (h : List Entry) (s : QueueState) → IsAtRest h → Describes o h s → uncollected s ≡ 0
 none_owed o h s rest stands = let all = stands.all_outcomes in let none = rest.collected in omega arith
 
 -- runs are numbered from 1
@@ -148,7 +148,7 @@ rotated o h s idle after = record {
   };
 }
   where
-    stands : Agrees o h s
+    stands : Describes o h s
     stands = after.stands
 
     rest : IsAtRest h
@@ -191,7 +191,7 @@ session_rotated o h s room gone keeps some idle after = record {
     at_most_one false = omega arith
 
 -- the opening that goes on from where a queue stands
-pub opening_is : (o : Opening) (h : List Entry) (s : QueueState) → Agrees o h s → opening_of s ≡ opening_after o h
+pub opening_is : (o : Opening) (h : List Entry) (s : QueueState) → Describes o h s → opening_of s ≡ opening_after o h
 opening_is o h s stands =
     rw (
       stands.source_is,

@@ -1,7 +1,7 @@
 -- The run that has begun, as the log grows, and the agent that the last run has left.
 use Rattle.rdm_queue.proofs.Common.{◌≡◌, ℕ, true, false, List, [], ◌∷◌, ◌++◌, Option, Some, None, ◌∙◌, refl, ap}
 use Rattle.rdm_queue.proofs.Common.{inl, inr, ◌⊎◌, arith, map, subst, Bool, ◌+◌, Opening, Entry, AgentState, HasRunBy}
-use Rattle.rdm_queue.proofs.Common.{RunIs, Agrees, has_begun, last_begun, last_run, run_exchanges, SameRunning}
+use Rattle.rdm_queue.proofs.Common.{RunIs, Describes, has_begun, last_begun, last_run, run_exchanges, SameRunning}
 use Rattle.rdm_queue.proofs.Common.{served_stays, entries_before_run_stays, run_facts, run_kind, known_at_run}
 use Rattle.rdm_queue.proofs.Common.{AllByRecursion, StandsAfter, QueueState, RunState}
 use Rattle.rdm_wire.specs.Honest.{Seen}
@@ -12,7 +12,7 @@ use Rattle.rdm_agent.specs.declared.kind.Kind.{Kind}
 use Rattle.rdm_agent.specs.declared.search.Search.{Search}
 use Rattle.rdm_log.proofs.LogLemmas.RunFacts.{RunFacts}
 use Rattle.rdm_log.proofs.LogLemmas.RunningLemmas.{open_same, kind_same, known_at_same}
-use Rattle.rdm_queue.specs.body.Agrees.{HasLeft, LastLeft}
+use Rattle.rdm_queue.specs.body.Describes.{HasLeft, LastLeft}
 use Rattle.rdm_queue.specs.promises.BadUids.{IsBeforeRuns, AreBadUids, HasMoreBadUids}
 
 pub run_same : (o : Opening) (h k : List Entry) (s new : QueueState) (run : Option RunState) → SameRunning o h k
@@ -78,7 +78,7 @@ left_pushed o h e agent (Some r) at same left =
     }
 
 -- what the last run has left, whether it is open or not
-pub last_left : (o : Opening) (h : List Entry) (s : QueueState) → Agrees o h s → LastLeft o h s.agent (last_run h)
+pub last_left : (o : Opening) (h : List Entry) (s : QueueState) → Describes o h s → LastLeft o h s.agent (last_run h)
 last_left o h s stands = by_run s.run stands.run_is
   where
     by_run : (run : Option RunState) → RunIs o h s run → LastLeft o h s.agent (last_run h)
@@ -86,7 +86,7 @@ last_left o h s stands = by_run s.run stands.run_is
     by_run (Some r) is = rw is.last (record { aborted = is.aborted; has_run = is.has_run })
 
 -- before the first run of all no UID is set apart
-pub none_before : (o : Opening) (h : List Entry) (s : QueueState) → RunFacts o h → Agrees o h s → IsBeforeRuns o h
+pub none_before : (o : Opening) (h : List Entry) (s : QueueState) → RunFacts o h → Describes o h s → IsBeforeRuns o h
     → (s.agent.apart ≡ []) × (s.agent.more ≡ false)
 none_before o h s facts stands before = by_last (last_run h) refl (last_left o h s stands)
   where
@@ -115,7 +115,7 @@ has_fed search kind known budget true x a run =
       ap (λ (b : AgentState). b.more) run.is.1 ∙ ap (λ (b : AgentState). b.more) same,
     )
 
-left_run : (o : Opening) (h : List Entry) (s : QueueState) → Agrees o h s → (r : ℕ) → last_run h ≡ Some r
+left_run : (o : Opening) (h : List Entry) (s : QueueState) → Describes o h s → (r : ℕ) → last_run h ≡ Some r
     → HasLeft o h r s.agent
 left_run o h s stands r at = subst (λ last. LastLeft o h s.agent last) at (last_left o h s stands)
 

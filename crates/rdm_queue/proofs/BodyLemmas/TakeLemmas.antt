@@ -8,7 +8,7 @@ use Rattle.rdm_queue.proofs.Common.{traded, accepts, finishes, sends, cames, is_
 use Rattle.rdm_queue.proofs.Common.{unfinished, was_sent, next_tn, has_begun, open_run, last_run, unserved}
 use Rattle.rdm_queue.proofs.Common.{run_exchanges, is_answered, run_kind, known_at_run, NoSend, QueueState, RunState}
 use Rattle.rdm_queue.proofs.Common.{IsGiven, WhichGives, begun, to_send, Opened, Turned, Began, IsRunning, IsNotRunning}
-use Rattle.rdm_queue.proofs.Common.{RunIs, RunGoesOn, oldest_number, Agrees, StandsAfter, LogFacts, legal_facts}
+use Rattle.rdm_queue.proofs.Common.{RunIs, RunGoesOn, oldest_number, Describes, StandsAfter, LogFacts, legal_facts}
 use Rattle.rdm_queue.proofs.Common.{unfinished_number, later_unsent, ask_facts, run_facts, slice_get-drop}
 use Rattle.rdm_queue.proofs.Common.{agent_goes_on, all_unserved}
 use Rattle.rdm_wire.specs.Honest.Asked.{Unmute, Branch, Mute}
@@ -16,7 +16,7 @@ use Rattle.rdm_agent.specs.Statements.{IsInOrder}
 use Rattle.rdm_agent.specs.declared.op.Op.TheVariants as ops
 use Rattle.rdm_agent.proofs.CallLemmas.{next-in_order, next-in_budget}
 use Rattle.rdm_log.specs.declared.entry.Owner.TheVariants as owners
-use Rattle.rdm_log.specs.log.Entries.{Traded, traded_of}
+use Rattle.rdm_log.specs.log.Entries.{OwnedExchange, traded_of}
 use Rattle.rdm_log.specs.log.History.{under_way, next_request}
 use Rattle.rdm_log.specs.log.Runs.{run_frames, seen_of}
 use Rattle.rdm_log.specs.log.MaySend.{MaySendRequest, MaySendRun, MayBegin, IsRunFrame}
@@ -29,8 +29,8 @@ use Rattle.rdm_log.proofs.LogLemmas.RunFacts.{is_open, any_from_index}
 use Rattle.rdm_log.proofs.LogLemmas.Indices.{within_some}
 use Rattle.rdm_log.proofs.LogLemmas.RunLemmas.{no_frames}
 use Rattle.rdm_queue.proofs.BodyLemmas.AfterLemmas.{IsSent, pending_flag, sent_by_frame}
-use Rattle.rdm_queue.proofs.BodyLemmas.AgreesWork.{stands_send, none_sent}
-use Rattle.rdm_queue.proofs.BodyLemmas.AgreesRuns.{stands_run_send, stands_begin, not_stopped}
+use Rattle.rdm_queue.proofs.BodyLemmas.DescribesWork.{stands_send, none_sent}
+use Rattle.rdm_queue.proofs.BodyLemmas.DescribesRuns.{stands_run_send, stands_begin, not_stopped}
 
 -- no reply is awaited
 free_of : (o : Opening) (h : List Entry) (s : QueueState) → is_some s.awaited ≡ false → StandsAfter o h s
@@ -40,7 +40,7 @@ free_of o h s free after = sym (pending_flag o h s s.awaited after.stands.awaite
 -- a run has as many frames as exchanges if no reply is awaited
 frames_of : (r : ℕ) (ss : List Sending) (es : List LineEvent) → length ss ≡ length es
     → length (filter (λ (s : Sending). is_run r s.owner) ss)
-    ≡ length (map seen_of (filter (λ (t : Traded). is_run r t.owner) (map traded_of (zip ss es))))
+    ≡ length (map seen_of (filter (λ (t : OwnedExchange). is_run r t.owner) (map traded_of (zip ss es))))
 frames_of r [] es even = refl
 frames_of r (s ∷ ss) [] even = absurd (omega arith)
 frames_of r (s ∷ ss) (e ∷ es) even = by_test (is_run r s.owner) (frames_of r ss es (omega arith))
@@ -48,8 +48,8 @@ frames_of r (s ∷ ss) (e ∷ es) even = by_test (is_run r s.owner) (frames_of r
     frames : List Sending
     frames = filter (λ (t : Sending). is_run r t.owner) ss
 
-    exchanges : List Traded
-    exchanges = filter (λ (t : Traded). is_run r t.owner) (map traded_of (zip ss es))
+    exchanges : List OwnedExchange
+    exchanges = filter (λ (t : OwnedExchange). is_run r t.owner) (map traded_of (zip ss es))
 
     by_test : (b : Bool) → length frames ≡ length (map seen_of exchanges)
         → length (cond b (s ∷ frames) frames) ≡ length (map seen_of (cond b (traded_of (s, e) ∷ exchanges) exchanges))
@@ -86,11 +86,11 @@ frame_in_order (ops.Branch range) s tn before frame is ordered goes = record {
 frame_in_order ops.End s tn before frame is ordered goes = absurd (goes refl)
 
 -- no run is open, and none has an answer left to give
-pub not_running : (o : Opening) (h : List Entry) (s : QueueState) → s.run ≡ None → Agrees o h s
+pub not_running : (o : Opening) (h : List Entry) (s : QueueState) → s.run ≡ None → Describes o h s
     → IsNotRunning o h s.agent
 not_running o h s none stands = subst (λ q. RunIs o h s q) none stands.run_is
 
-pub running : (o : Opening) (h : List Entry) (s : QueueState) (r : RunState) → s.run ≡ Some r → Agrees o h s
+pub running : (o : Opening) (h : List Entry) (s : QueueState) (r : RunState) → s.run ≡ Some r → Describes o h s
     → IsRunning o h s r
 running o h s r is stands = subst (λ q. RunIs o h s q) is stands.run_is
 
@@ -135,7 +135,7 @@ may_turn o h s owner frame new free not_closed gives after = record {
 
 -- the open run's
 pub run_opened : (o : Opening) (h : List Entry) (s : QueueState) (r : RunState) → s.run ≡ Some r
-    → (next_op s.agent ≡ ops.End → ⊥) → Agrees o h s → open_run h ≡ Some r.number
+    → (next_op s.agent ≡ ops.End → ⊥) → Describes o h s → open_run h ≡ Some r.number
 run_opened o h s r is goes stands =
     let run = running o h s r is stands in
     is_open h r.number (record { last = run.last; left = by_test run (cases_Bool (is_answered r.number h)) })

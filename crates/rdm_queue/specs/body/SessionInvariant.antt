@@ -7,7 +7,7 @@ use Rattle.rdm_log.specs.promises.Blocks.{AllResults}
 use Rattle.rdm_log.specs.promises.InBound.{AnswersInBound}
 use Rattle.rdm_log.specs.promises.LogInBound.{InBound}
 use Rattle.rdm_queue.specs.body.State.{QueueState}
-use Rattle.rdm_queue.specs.body.Agrees.{StandsAmid, StandsAfter}
+use Rattle.rdm_queue.specs.body.Describes.{StandsAmid, StandsAfter}
 
 -- the entries and those that are reserved fit
 abbrev pub HasRoom : LogState → Type 0

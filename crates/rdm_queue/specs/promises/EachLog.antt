@@ -5,7 +5,7 @@ use Rattle.rdm_log.specs.declared.entry.Opening.{Opening}
 use Rattle.rdm_log.specs.declared.entry.Entry.{Entry}
 use Rattle.rdm_log.specs.log.LogState.{LogState, opened}
 use Rattle.rdm_queue.specs.body.State.{QueueState}
-use Rattle.rdm_queue.specs.body.Agrees.{StandsAfter}
+use Rattle.rdm_queue.specs.body.Describes.{StandsAfter}
 
 -- this holds for each log that describes the controller's state
 abbrev pub ForEachLog : QueueState → (Opening → List Entry → Type 0) → Type 0

@@ -104,7 +104,7 @@ RunIs o h s None = IsNotRunning o h s.agent
 RunIs o h s (Some r) = IsRunning o h s r
 
 -- what a queue holds is what the log says
-pub record Agrees (o : Opening) (h : List Entry) (s : QueueState) : Type 0 where
+pub record Describes (o : Opening) (h : List Entry) (s : QueueState) : Type 0 where
   pub source_is : s.source ≡ o.source
   pub greatest_is : s.greatest ≡ o.greatest
   pub budget_is : s.budget ≡ o.budget
@@ -141,13 +141,13 @@ RunGoesOn (Some r) agent = next_op agent ≢ End
 -- the log is legal and describes the queue's state, and a run that has begun hasn't ended
 pub record StandsAfter (o : Opening) (h : List Entry) (s : QueueState) : Type 0 where
   pub legal : Legal o h
-  pub stands : Agrees o h s
+  pub stands : Describes o h s
   pub goes_on : RunGoesOn s.run s.agent
 
 -- the log describes the queue's state within a block of entries: Finishes and Answers may still be due
 pub record StandsAmid (o : Opening) (h : List Entry) (s : QueueState) : Type 0 where
   pub each : EachAfter (MayFollow o) h
-  pub stands : Agrees o h s
+  pub stands : Describes o h s
 
 -- this holds for each log that describes the queue's state within a block
 abbrev pub ForEachBlock : QueueState → (Opening → List Entry → Type 0) → Type 0
@@ -160,7 +160,7 @@ AddsAmid old May e new =
 
 -- What was due next was ended with this entry, a Finish or an Answer in bound. This holds for each log that describes
 -- old within a block.
-pub record Ends (old : QueueState) (e : Entry) (new : QueueState) : Type 0 where
+pub record FinishesNext (old : QueueState) (e : Entry) (new : QueueState) : Type 0 where
   pub is : is_result e ≡ true
   pub each : (k : LogState) → StandsAmid k.opening k.entries old
       → FaultNeedsClose k e × StandsAmid k.opening (k.entries ++ e ∷ []) new

@@ -3,7 +3,7 @@ use Rattle.rdm_queue.proofs.Common.{◌≡◌, ℕ, ◌+◌, Bool, true, false, 
 use Rattle.rdm_queue.proofs.Common.{refl, sym, ap, ◌∙◌, inl, EachAfter, Opening, Entry, Send, Came, Awaited, Sending}
 use Rattle.rdm_queue.proofs.Common.{asks, sends, cames, finishes, answers, collectors, verdicts, awaited, is_paused}
 use Rattle.rdm_queue.proofs.Common.{is_closed, next_tn, was_sent, answers_to, devices_run, MayFollow, OutcomeValue}
-use Rattle.rdm_queue.proofs.Common.{QueueState, owed_to, IsStanding, IsLast, IsPending, RunIs, oldest_number, Agrees}
+use Rattle.rdm_queue.proofs.Common.{QueueState, owed_to, IsStanding, IsLast, IsPending, RunIs, oldest_number, Describes}
 use Rattle.rdm_queue.proofs.Common.{asks-push, answers-push, sends-push, cames-push, finishes-push, collectors-push}
 use Rattle.rdm_queue.proofs.Common.{awaited-push, verdicts_same, answers_same, outcomes_step, known_step, SameRunning}
 use Rattle.rdm_queue.proofs.Common.{same_running, filter_map, uncollected, outcome_of}
@@ -97,7 +97,7 @@ with_line s line = record s {
 }
 
 -- what a queue says of the line is what the log says
-pub record AgreesOnLine (o : Opening) (h : List Entry) (s : QueueState) : Type 0 where
+pub record DescribesLine (o : Opening) (h : List Entry) (s : QueueState) : Type 0 where
   pub next_tn_is : s.next_tn ≡ next_tn o h
   pub awaited_is : IsPending o h s s.awaited
   pub under_way_is : s.under_way ≡ was_sent (oldest_number o h) h
@@ -123,8 +123,8 @@ same_line o h e send came ends waits = record {
   running = same_running o h e send came (no_reply e ends);
 }
 
-pub line_same : (o : Opening) (h k : List Entry) (s new : QueueState) → SameLine o h k → Agrees o h s
-    → AgreesOnLine o k (with_line new s)
+pub line_same : (o : Opening) (h k : List Entry) (s new : QueueState) → SameLine o h k → Describes o h s
+    → DescribesLine o k (with_line new s)
 line_same o h k s new same stands = record {
   next_tn_is = rw same.same_sends stands.next_tn_is;
   awaited_is =
@@ -144,8 +144,8 @@ is_traded (Came event) = true
 is_traded _ = false
 
 pub traded : (o : Opening) (h : List Entry) (e : Entry) (s new : QueueState) → EachAfter (MayFollow o) h
-    → MayFollow o h e → is_traded e ≡ true → Agrees o h s → AgreesOnLine o (h ++ e ∷ []) (with_line s new)
-    → Agrees o (h ++ e ∷ []) (with_line s new)
+    → MayFollow o h e → is_traded e ≡ true → Describes o h s → DescribesLine o (h ++ e ∷ []) (with_line s new)
+    → Describes o (h ++ e ∷ []) (with_line s new)
 traded o h (Send owner frame) s new each may is stands line =
     let e = Send owner frame in
     let known = stands.devices_are ∙ sym (known_step o h e each may (answers-push h e)) in
@@ -182,7 +182,7 @@ pub stands_same : (o : Opening) (h : List Entry) (e : Entry) (s : QueueState) (p
     → ((c : ℕ) → owed_to c (record s { owed = owed }) ≡ owed_to c s)
     → uncollected_by (record s { owed = owed }) ≡ uncollected_by s → length owed ≡ length (places o (h ++ e ∷ []))
     → ((c : ℕ) → get_or flags c [] ≡ flags_to c s) → length flags ≡ length (places o (h ++ e ∷ []))
-    → Agrees o h s → Agrees o (h ++ e ∷ []) (record s {
+    → Describes o h s → Describes o (h ++ e ∷ []) (record s {
       places = ps;
       paused = paused;
       closed = closed;
@@ -227,7 +227,7 @@ stands_same o h e s ps paused closed owed flags each may work places_are paused_
     new : QueueState
     new = record s { places = ps; paused = paused; closed = closed; owed = owed; flags = flags }
 
-    line : AgreesOnLine o k new
+    line : DescribesLine o k new
     line =
         line_same o h k s new (record {
           same_sends = work.requests.same_sends;

@@ -11,7 +11,7 @@ use Rattle.rdm_queue.proofs.Common.{is_request, is_run, awaited, unfinished, ans
 use Rattle.rdm_queue.proofs.Common.{MayFollow, OutcomeValue, outcome_of, completion_of, QueueState, owed_for, owed_to}
 use Rattle.rdm_queue.proofs.Common.{owed_value, owes, accepts_request, asks_discovery, collects_oldest, finishes_oldest}
 use Rattle.rdm_queue.proofs.Common.{finish_of, IsStanding, sent_for, IsLast, AwaitsRequest, IsNotRunning, oldest_number}
-use Rattle.rdm_queue.proofs.Common.{Agrees, joins-push, accepts-push, asks-push, answers-push, sends-push}
+use Rattle.rdm_queue.proofs.Common.{Describes, joins-push, accepts-push, asks-push, answers-push, sends-push}
 use Rattle.rdm_queue.proofs.Common.{cames-push, finishes-push, collectors-push, awaited-push, is_paused-push}
 use Rattle.rdm_queue.proofs.Common.{is_closed-push, index_within, IsUnanswered, verdicts_sent, verdicts_unsent}
 use Rattle.rdm_queue.proofs.Common.{LogFacts, unfinished_number, AskFacts, answers_same, ClientFacts, last_run_same}
@@ -36,8 +36,8 @@ use Rattle.rdm_log.proofs.PromiseLemmas.OutcomeLemmas.{uncollected_more, outcome
 use Rattle.rdm_queue.proofs.BodyLemmas.OutstandingLemmas.{in_all, in_all-cons, removed_at, put_at, owes-own, owes-other}
 use Rattle.rdm_log.proofs.LogLemmas.RunningLemmas.{same_running_came}
 use Rattle.rdm_queue.proofs.BodyLemmas.RunningLemmas.{run_same, left_pushed}
-use Rattle.rdm_queue.proofs.BodyLemmas.AgreesSame.{devices_run_same, AgreesOnLine, with_line, same_line, line_same}
-use Rattle.rdm_queue.proofs.BodyLemmas.AgreesSame.{traded, flags_kept}
+use Rattle.rdm_queue.proofs.BodyLemmas.DescribesSame.{devices_run_same, DescribesLine, with_line, same_line, line_same}
+use Rattle.rdm_queue.proofs.BodyLemmas.DescribesSame.{traded, flags_kept}
 use Rattle.rdm_queue.proofs.Common.{map, map-append, option_and_then, Status, set, IsPending, RunIs, was_sent}
 use Rattle.rdm_log.proofs.LogLemmas.RunningLemmas.{run_pushes}
 use Rattle.std.proofs.lemmas.List.{drop-map}
@@ -53,7 +53,7 @@ use Rattle.rdm_queue.specs.body.State.{flags_to, flags_more, broken_after, flag_
 
 -- what an entry that ends no work leaves as it was
 record Kept (o : Opening) (h k : List Entry) (s new : QueueState) : Type 0 where
-  line : AgreesOnLine o k (with_line new s)
+  line : DescribesLine o k (with_line new s)
   devices_are : s.devices ≡ known_devices o k
   outcomes : (c : ℕ) → filter_map (outcome_of k) (uncollected o c h) ≡ filter_map (outcome_of h) (uncollected o c h)
   same_incomplete : incomplete o k ≡ incomplete o h
@@ -61,7 +61,7 @@ record Kept (o : Opening) (h k : List Entry) (s new : QueueState) : Type 0 where
 
 kept : (o : Opening) (h : List Entry) (e : Entry) (s new : QueueState) → EachAfter (MayFollow o) h → MayFollow o h e
     → sending_of e ≡ None → came_of e ≡ None → ends_work e ≡ false → awaits_after (awaited h) e ≡ awaited h
-    → Agrees o h s → Kept o h (h ++ e ∷ []) s new
+    → Describes o h s → Kept o h (h ++ e ∷ []) s new
 kept o h e s new each may send came ends waits stands = record {
   line = line_same o h (h ++ e ∷ []) s new (same_line o h e send came ends waits) stands;
   devices_are = stands.devices_are ∙ sym (known_step o h e each may (rw (no_reply e ends) at (answers-push h e)));
@@ -73,7 +73,7 @@ kept o h e s new each may send came ends waits stands = record {
 -- a request is accepted
 pub stands_accept : (o : Opening) (h : List Entry) (s : QueueState) (c : ClientId) (n : ℕ) (request : Request)
     → EachAfter (MayFollow o) h → MayFollow o h (Accept c n request) → LogFacts o h → AskFacts o h → n ≡ s.next_request
-    → Agrees o h s → Agrees o (h ++ Accept c n request ∷ []) (accepts_request s c.0 request)
+    → Describes o h s → Describes o (h ++ Accept c n request ∷ []) (accepts_request s c.0 request)
 stands_accept o h s c n request each may facts ask_facts number stands =
     let k : List Entry = h ++ Accept c n request ∷ [] in
     let within = facts.finished_within in
@@ -94,7 +94,7 @@ stands_accept o h s c n request each may facts ask_facts number stands =
 -- a discovery is asked
 pub stands_ask : (o : Opening) (h : List Entry) (s : QueueState) (c : ClientId) (n : ℕ) (kind : Kind)
     → EachAfter (MayFollow o) h → MayFollow o h (Ask c n kind) → LogFacts o h → AskFacts o h → n ≡ s.next_ask
-    → Agrees o h s → Agrees o (h ++ Ask c n kind ∷ []) (asks_discovery s c.0 kind)
+    → Describes o h s → Describes o (h ++ Ask c n kind ∷ []) (asks_discovery s c.0 kind)
 stands_ask o h s c n kind each may facts ask_facts number stands =
     let k : List Entry = h ++ Ask c n kind ∷ [] in
     let within = ask_facts.answered_within in
@@ -129,7 +129,7 @@ was_sent_own n ss frame =
 pub stands_send : (o : Opening) (h : List Entry) (s : QueueState) (a : Accepted) (frame : ArrayVec ℕ)
     → EachAfter (MayFollow o) h → MayFollow o h (Send (owners.Request a.number) frame)
     → length (sends h) ≡ length (cames h) → a.number ≡ oldest_number o h → sent_by frame.items ≡ sent_for s a
-    → s.run ≡ None → Agrees o h s → Agrees o (h ++ Send (owners.Request a.number) frame ∷ []) (sends_request s a)
+    → s.run ≡ None → Describes o h s → Describes o (h ++ Send (owners.Request a.number) frame ∷ []) (sends_request s a)
 stands_send o h s a frame each may even number sent none stands =
     traded o h e s new each may refl stands line
   where
@@ -151,7 +151,7 @@ stands_send o h s a frame each may even number sent none stands =
     runs : SameRuns h k
     runs = same_runs_sent h a.number frame even
 
-    line : AgreesOnLine o k new
+    line : DescribesLine o k new
     line = record {
       next_tn_is =
           rw (sends-push h e, length-append (sends h) (x ∷ []))
@@ -208,8 +208,8 @@ unanswered_of o h x facts is = record {
 pub stands_came : (o : Opening) (h : List Entry) (s : QueueState) (sent : Sent) (event : LineEvent)
     (decided : Option Joined) (joiner : JoinerStanding) → EachAfter (MayFollow o) h → MayFollow o h (Came event)
     → LogFacts o h → s.awaited ≡ Some (awaiting.Request sent)
-    → IsStanding (verdicts (oldest_number o h) h ++ verdict sent event ∷ []) decided joiner → Agrees o h s
-    → Agrees o (h ++ Came event ∷ []) (record s { awaited = None; joiner = joiner; decided = decided })
+    → IsStanding (verdicts (oldest_number o h) h ++ verdict sent event ∷ []) decided joiner → Describes o h s
+    → Describes o (h ++ Came event ∷ []) (record s { awaited = None; joiner = joiner; decided = decided })
 stands_came o h s sent event decided joiner each may facts was standing stands =
     traded o h e s new each may refl stands line
   where
@@ -228,7 +228,7 @@ stands_came o h s sent event decided joiner each may facts was standing stands =
     x : IsUnanswered h (record { owner = owners.Request (oldest_number o h); frame = w.frame })
     x = unanswered_of o h _ facts w.last
 
-    line : AgreesOnLine o k new
+    line : DescribesLine o k new
     line = record {
       next_tn_is = rw (sends-push h e) stands.next_tn_is;
       awaited_is = awaited-push h e;
@@ -271,8 +271,8 @@ count_less (ds ∷ lists) (suc c) d at =
     omega (arith, count_less lists c d at, in_all-cons ds (removed_at lists c), in_all-cons ds lists)
 
 pub stands_collect : (o : Opening) (h : List Entry) (s : QueueState) (c : ClientId) (d : OutcomeValue)
-    → EachAfter (MayFollow o) h → MayFollow o h (Collect c) → slice_get (owed_to c.0 s) 0 ≡ Some d → Agrees o h s
-    → Agrees o (h ++ Collect c ∷ []) (collects_oldest s c.0)
+    → EachAfter (MayFollow o) h → MayFollow o h (Collect c) → slice_get (owed_to c.0 s) 0 ≡ Some d → Describes o h s
+    → Describes o (h ++ Collect c ∷ []) (collects_oldest s c.0)
 stands_collect o h s c d each may first stands =
     let rest = kept o h e s (collects_oldest s c.0) each may refl refl refl refl stands in
     let long : length (collects_oldest s c.0).owed ≡ length (places o k) =
@@ -441,8 +441,8 @@ none_sent n (x ∷ ss) none = rw (none 0 x refl) (none_sent n ss (λ i y at. non
 pub stands_finish : (o : Opening) (h : List Entry) (s : QueueState) (a : Accepted) (rest : List Accepted)
     (done : Joined) → EachAfter (MayFollow o) h → MayFollow o h (finish_of (owed_for done a)) → LogFacts o h
     → ClientFacts o h → unfinished h ≡ a ∷ rest → done ≡ completion_of done.status (result a.number h)
-    → s.awaited ≡ None → s.run ≡ None → Agrees o h s
-    → Agrees o (h ++ finish_of (owed_for done a) ∷ []) (finishes_oldest s (owed_for done a))
+    → s.awaited ≡ None → s.run ≡ None → Describes o h s
+    → Describes o (h ++ finish_of (owed_for done a) ∷ []) (finishes_oldest s (owed_for done a))
 stands_finish o h s a rest done each may facts clients oldest completes idle none stands =
     let waiting : drop 1 s.waiting ≡ unfinished k =
     rw (unfinished_finish h a.number done.status (length done.data_)) (ap (drop 1) stands.waiting_are) in

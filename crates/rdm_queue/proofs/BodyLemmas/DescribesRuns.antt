@@ -5,9 +5,9 @@ use Rattle.rdm_queue.proofs.Common.{arith, ◌⊎◌, ◌≢◌, ◌||◌, list_
 use Rattle.rdm_queue.proofs.Common.{length-drop, list_any-append, ArrayVec, EachAfter, LineEvent, Kind, Opening, Entry}
 use Rattle.rdm_queue.proofs.Common.{Send, Came, AskedDiscovery, Sending, asks, sends, cames, answers, is_request}
 use Rattle.rdm_queue.proofs.Common.{unanswered, last_run, MayFollow, QueueState, RunState, IsNotRunning, RunIs}
-use Rattle.rdm_queue.proofs.Common.{oldest_number, Agrees, joins-push, accepts-push, asks-push, answers-push}
+use Rattle.rdm_queue.proofs.Common.{oldest_number, Describes, joins-push, accepts-push, asks-push, answers-push}
 use Rattle.rdm_queue.proofs.Common.{sends-push, cames-push, finishes-push, collectors-push, awaited-push}
-use Rattle.rdm_queue.proofs.Common.{is_paused-push, is_closed-push, unfinished_same, IsUnanswered, verdicts_same}
+use Rattle.rdm_queue.proofs.Common.{is_paused-push, is_closed-push, IsUnanswered, verdicts_same}
 use Rattle.rdm_queue.proofs.Common.{verdicts_sent, LogFacts, AskFacts, ClientFacts, last_run_same, last_run_sent}
 use Rattle.rdm_queue.proofs.Common.{outcomes_step, Device, asked_by, next_op, HasRunBy, AgentState, op_frame, End}
 use Rattle.rdm_queue.proofs.Common.{AgentFault, aborted_ends, Answer, has_begun, is_answered, run_exchanges, run_kind}
@@ -18,7 +18,7 @@ use Rattle.rdm_queue.proofs.Common.{entries_before_run_stays, some_at, asked_sta
 use Rattle.rdm_log.specs.declared.entry.Owner.TheVariants as owners
 use Rattle.rdm_queue.specs.declared.pending.Awaited.TheVariants as awaiting
 use Rattle.rdm_log.proofs.LogLemmas.ExchangeLemmas.{verdicts_came_other}
-use Rattle.rdm_queue.proofs.BodyLemmas.AgreesSame.{AgreesOnLine, traded}
+use Rattle.rdm_queue.proofs.BodyLemmas.DescribesSame.{DescribesLine, traded}
 use Rattle.std.proofs.lemmas.List.Sums.{fold_push}
 use Rattle.rdm_wire.specs.Devices.{uids_of}
 use Rattle.rdm_wire.specs.Frames.{asked_in, heard_in}
@@ -39,7 +39,7 @@ use Rattle.rdm_queue.proofs.Common.{uncollected}
 use Rattle.rdm_log.specs.log.Broken.{Incomplete}
 use Rattle.rdm_log.proofs.LogLemmas.BrokenLemmas.{incomplete_same}
 use Rattle.rdm_log.proofs.PromiseLemmas.IncompleteLemmas.{flags_same}
-use Rattle.rdm_queue.proofs.BodyLemmas.AgreesWork.{counted, unanswered_of, count_more, owed_more, flags_grow}
+use Rattle.rdm_queue.proofs.BodyLemmas.DescribesWork.{counted, unanswered_of, count_more, owed_more, flags_grow}
 use Rattle.rdm_log.proofs.LogLemmas.BegunLemmas.{before_begun, begins_now}
 use Rattle.rdm_queue.proofs.Common.{IsStanding, verdicts, owed_to, outcome_of, filter_map, finishes, collectors, map}
 use Rattle.rdm_log.specs.log.History.{places}
@@ -72,8 +72,8 @@ way_same n r ss frame =
 pub stands_run_send : (o : Opening) (h : List Entry) (s : QueueState) (r : RunState) (frame : ArrayVec ℕ)
     → EachAfter (MayFollow o) h → MayFollow o h (Send (owners.Run r.number) frame) → length (sends h) ≡ length (cames h)
     → s.run ≡ Some r → next_op s.agent ≢ End → frame.items ≡ op_frame (next_op s.agent) s.source s.next_tn
-    → asked_in frame.items ≡ asked_by (next_op s.agent) → Agrees o h s
-    → Agrees o (h ++ Send (owners.Run r.number) frame ∷ []) (gives_run s)
+    → asked_in frame.items ≡ asked_by (next_op s.agent) → Describes o h s
+    → Describes o (h ++ Send (owners.Run r.number) frame ∷ []) (gives_run s)
 stands_run_send o h s r frame each may even is goes frame_is asks_is stands =
     traded o h e s new each may refl stands line
   where
@@ -95,7 +95,7 @@ stands_run_send o h s r frame each may even is goes frame_is asks_is stands =
     started : has_begun r.number h ≡ true
     started = last_begun r.number h before.last
 
-    line : AgreesOnLine o k new
+    line : DescribesLine o k new
     line = record {
       next_tn_is =
           rw (sends-push h e, length-append (sends h) (x ∷ []))
@@ -142,8 +142,8 @@ pub stands_begin : (o : Opening) (h : List Entry) (s : QueueState) (frame : Arra
     → HasRunBy s.search (kind_of s.asked) (uids_of s.devices) s.budget false [] (begun s).agent
     → next_op (begun s).agent ≢ End
     → frame.items ≡ op_frame (next_op (begun s).agent) s.source s.next_tn
-    → asked_in frame.items ≡ asked_by (next_op (begun s).agent) → Agrees o h s
-    → Agrees o (h ++ Send (owners.Run s.next_run) frame ∷ []) (gives_run (begun s))
+    → asked_in frame.items ≡ asked_by (next_op (begun s).agent) → Describes o h s
+    → Describes o (h ++ Send (owners.Run s.next_run) frame ∷ []) (gives_run (begun s))
 stands_begin o h s frame each may run_facts ask_facts even none way some from starts goes frame_is asks_is stands =
     traded o h e s new each may refl stands line
   where
@@ -178,7 +178,7 @@ stands_begin o h s frame each may run_facts ask_facts even none way some from st
     unnamed : is_answered s.next_run h ≡ false
     unnamed = never_named o h s.next_run run_facts from (let same = stands.next_run_is in omega arith)
 
-    line : AgreesOnLine o k new
+    line : DescribesLine o k new
     line = record {
       next_tn_is =
           rw (sends-push h e, length-append (sends h) (x ∷ []))
@@ -233,7 +233,7 @@ stands_begin o h s frame each may run_facts ask_facts even none way some from st
 -- the reply to a run's frame is heard
 pub stands_run_came : (o : Opening) (h : List Entry) (s : QueueState) (tn : ℕ) (event : LineEvent)
     → EachAfter (MayFollow o) h → MayFollow o h (Came event) → LogFacts o h → s.awaited ≡ Some (awaiting.Run tn)
-    → Agrees o h s → Agrees o (h ++ Came event ∷ []) (hears_run tn event s)
+    → Describes o h s → Describes o (h ++ Came event ∷ []) (hears_run tn event s)
 stands_run_came o h s tn event each may facts was stands =
     traded o h e s new each may refl stands line
   where
@@ -267,7 +267,7 @@ stands_run_came o h s tn event each may facts was stands =
     heard = hears-has_run s.agent _ seen (next_asked s.agent w.goes_on ∙ ap Some (sym w.asks))
         (ap (λ b. fed s.agent (heard_in b (bytes_heard event))) (sym w.same)) _ _ _ before.aborted _ before.has_run
 
-    line : AgreesOnLine o k new
+    line : DescribesLine o k new
     line = record {
       next_tn_is = rw (sends-push h e) stands.next_tn_is;
       awaited_is = awaited-push h e;
@@ -354,7 +354,8 @@ pub stands_answer : (o : Opening) (h : List Entry) (s : QueueState) (a : AskedDi
     → slice_get (unanswered h) 0 ≡ Some a → found ≡ answer_devices q h → s.awaited ≡ None
     → devices ≡ known_devices o (h ++ answer_of a q f ∷ []) → devices_from ≡ devices_run o (h ++ answer_of a q f ∷ [])
     → RunIs o (h ++ answer_of a q f ∷ []) (answers_with s a q f found run agent devices devices_from) run
-    → Agrees o h s → Agrees o (h ++ answer_of a q f ∷ []) (answers_with s a q f found run agent devices devices_from)
+    → Describes o h s
+    → Describes o (h ++ answer_of a q f ∷ []) (answers_with s a q f found run agent devices devices_from)
 stands_answer o h s a q f found run agent devices devices_from each may asked_facts clients oldest is idle known from
     runs stands =
     let awaits : IsPending o k new s.awaited = rw idle (awaited-push h e ∙ rw idle at stands.awaited_is) in
