@@ -8,8 +8,8 @@ from typing import Iterator
 
 from ..checker.case import Case
 from .explained_runs import read
-from .runs import LIAR, UIDS, CommandClass, Pid, ResponseType, command_of, discovery, encode_branch_reply, shows
-from .runs import uid_text
+from .runs import LIAR, UIDS, CommandClass, Pid, ResponseType, command_of, discovery, encode_branch_reply, opening
+from .runs import shows, uid_text
 
 # A mute of the liar, and bytes that don't acknowledge it. They are judged in the order of this table.
 SPARE = UIDS["spare"]
@@ -109,7 +109,8 @@ AFTER_MUTE = MISREAD.format(
     "1234:00000008 alone was asked, and bytes came that are no right answer: take it off the line and discover again"
     f"{NO_DEVICE} (exchange 4)\n"
     "exchange 3 (and 1 more): bytes came after a mute of 1234:00000001 that don't acknowledge it: "
-    "they are too short for a response; ", "1234:00000001", NO_DEVICE)
+    "they are too short for a response; ", "1234:00000008", "").replace(
+        "noise: take 1234:00000008 off", "noise: first take 1234:00000008, at which the run ended, off")
 AFTER_TEXT = MISREAD.format(
     5, "", "exchange 3 (and 1 more): 1234:00000008 alone was asked, and bytes came that are no right answer; "
     "they read as 1234:00000001; ", "1234:00000001", "; then 1234:00000008")
@@ -170,6 +171,113 @@ if your rig has no such device, split the line
 status 3
 """
 
+# Who is to blame. After the name come the opening's words. No device is given.
+BLAMED = """\
+a device that was found, and is answered wrongly five times
+quick full
+3 unmute; all > liar; mute liar > ack; 5 alone liar > noise
+discovery: full, quick, 10 exchanges, 1 device; others may be on the line, or the log ends within the run
+not settled: a device from 0000:00000000 up may be missing
+1234:00000009 was found; exchange 5 has its UID and an answer that wasn't due, perhaps another device's
+exchange 5 (and 4 more): 1234:00000009 alone was asked, and bytes came that are no right answer: \
+they don't begin like a discovery reply; a rule was broken, by a device rather than noise: \
+take 1234:00000009 off the line and discover again
+status 3
+
+another UID's text five times
+quick full
+3 unmute; 5 alone spare > found
+discovery: full, quick, 8 exchanges, 0 devices; others may be on the line, or the log ends within the run
+not settled: a device from 0000:00000000 up may be missing
+exchange 3 (and 4 more): 1234:00000008 alone was asked, and bytes came that are no right answer; \
+they read as 1234:00000001; a rule was broken, by a device rather than noise: \
+take 1234:00000001 off the line and discover again; then 1234:00000008
+status 3
+
+noise from a broadcast UID alone, in a run that found all devices
+steady full
+3 unmute; all > liar; mute liar > ack; 5 all; alone nobody > noise
+discovery: full, steady, 11 exchanges, 1 device; no other device is on the line if all follow the rules
+1234:00000009 was found, and followed the rules
+exchange 10: ffff:ffffffff alone was asked, and bytes came that are no right answer: \
+they don't begin like a discovery reply; a rule was broken, probably by noise: \
+no device may have ffff:ffffffff; if it happens again, check the cable and its terminator
+status 3
+
+five bad answers of a broadcast UID
+quick full
+3 unmute; 5 alone nobody > noise
+discovery: full, quick, 8 exchanges, 0 devices; others may be on the line, or the log ends within the run
+not settled: a device from 0000:00000000 up may be missing
+exchange 3 (and 4 more): ffff:ffffffff alone was asked, and bytes came that are no right answer: \
+they don't begin like a discovery reply; a rule was broken, by a device rather than noise: \
+split the line and discover each half
+status 3
+
+another UID's text, and then the UID with which a run ends
+quick full
+3 unmute; alone spare > found; 8 alone liar > noise
+discovery: full, quick, 12 exchanges, ended early at 1234:00000009 (it alone was asked, and the answers weren't a new \
+device's), 0 devices; others may be on the line
+not settled: a device from 0000:00000000 up may be missing
+1234:00000009 alone was asked, and bytes came that are no right answer: take it off the line and discover again; \
+if your rig has no such device, split the line (exchange 4)
+exchange 3 (and 8 more): 1234:00000008 alone was asked, and bytes came that are no right answer; \
+they read as 1234:00000001; a rule was broken, by a device or noise: \
+first take 1234:00000009, at which the run ended, off the line and discover again
+status 3
+
+five bad answers, and then the UID with which a run ends
+quick full
+3 unmute; 5 alone spare > noise; 8 alone liar > noise
+discovery: full, quick, 16 exchanges, ended early at 1234:00000009 (it alone was asked, and the answers weren't a new \
+device's), 0 devices; others may be on the line
+not settled: a device from 0000:00000000 up may be missing
+1234:00000009 alone was asked, and bytes came that are no right answer: take it off the line and discover again; \
+if your rig has no such device, split the line (exchange 8)
+exchange 3 (and 12 more): 1234:00000008 alone was asked, and bytes came that are no right answer: \
+they don't begin like a discovery reply; a rule was broken, by a device rather than noise: \
+take 1234:00000008 off the line and discover again; if your rig has no such device, split the line
+status 3
+
+noise after a mute, and then from a broadcast UID, with which a run ends
+steady full
+3 unmute; all > found; mute found > noise; alone nobody > noise
+discovery: full, steady, 6 exchanges, ended early at ffff:ffffffff (it alone was asked, and the answers weren't a new \
+device's), 0 devices; others may be on the line
+exchange 4 mutes a UID that neither acknowledged nor was muted five times in a row: perhaps no device has it
+not settled: a device from 0000:00000000 up may be missing
+ffff:ffffffff alone was asked, and bytes came that are no right answer: split the line and discover each half \
+(exchange 5)
+exchange 3 (and 2 more): the UIDs from 0000:00000000 to ffff:ffffffff were asked, and bytes came though no listed \
+device was due; they read as 1234:00000001, which isn't listed: name it by --present, if your rig has it
+exchange 4 (and 1 more): bytes came after a mute of 1234:00000001 that don't acknowledge it: \
+they are too short for a response; a rule was broken, by a device or noise: \
+take 1234:00000001 off the line and discover again; if your rig has no such device, split the line
+status 3
+
+noise from a UID alone, in a run that found all devices
+steady full
+3 unmute; all > liar; mute liar > ack; 5 all; alone spare > noise
+discovery: full, steady, 11 exchanges, 1 device; no other device is on the line if all follow the rules
+1234:00000009 was found, and followed the rules
+exchange 10: 1234:00000008 alone was asked, and bytes came that are no right answer: \
+they don't begin like a discovery reply; a rule was broken, probably by noise: \
+no device with 1234:00000008 was found; if it happens again, check the cable and its terminator
+status 3
+
+noise after a mute of a known UID, in a run that found all devices
+steady incremental 1234:00000008
+3 unmute; mute spare > noise; 4 mute spare; all > liar; mute liar > ack; 5 all
+discovery: incremental, steady, 15 exchanges, 1 device; no other device is on the line if all follow the rules
+1234:00000009 was found, and followed the rules
+1234:00000008 was known, and bytes came that don't acknowledge its mute: exchange 3
+exchange 3: bytes came after a mute of 1234:00000008 that don't acknowledge it: \
+they are too short for a response; a rule was broken, probably by noise if you took 1234:00000008 away; \
+if it is still there, take it off the line and discover again
+status 3
+"""
+
 
 def cases() -> Iterator[Case]:
     """All mutes. Only the first one's flaw is told."""
@@ -186,6 +294,10 @@ def cases() -> Iterator[Case]:
     yield shows("a mute that another listed device answers", discovery(run), SPARE_ANSWERS, 3, [uid_text(SPARE), LIAR])
     for it in read(STRANGERS):
         yield shows(it.name, discovery(it.run), it.text, it.status, [LIAR])
+    for it in read(BLAMED, has_opening=True):
+        search, *words = it.opening
+        log = opening(*words).replace("steady", search) + discovery(it.run)
+        yield shows(f"who is to blame: {it.name}", log, it.text, it.status)
     for at, (flaw, reply) in enumerate(TEXT_FLAWS):
         run = f"3 unmute; alone spare > x{reply.hex()}"
         said = f"exchange 3{{}}: 1234:00000008 alone was asked, and bytes came that are no right answer: {flaw}; "

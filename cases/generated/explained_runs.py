@@ -88,7 +88,7 @@ status 0
 
 the same and five mutes of it, with which a run ends
 3 unmute; alone spare > spare; 5 mute spare
-9 exchanges, ended early at 1234:00000008 (it alone was asked, and the answers weren't a new device's), \
+9 exchanges, ended early at 1234:00000008 (it answered alone and then acknowledged no mute), \
 0 devices, but 1 listed device wasn't found; others may be on the line
 not settled: a device from 0000:00000000 up may be missing
 1234:00000009 wasn't found: the run ended before it was clear whether it is there; it broke no rule until then
@@ -108,7 +108,7 @@ status 0
 
 the same with other bytes after each mute
 3 unmute; alone spare > spare; 5 mute spare > noise
-9 exchanges, ended early at 1234:00000008 (it alone was asked, and the answers weren't a new device's), \
+9 exchanges, ended early at 1234:00000008 (it answered alone and then acknowledged no mute), \
 0 devices, but 1 listed device wasn't found; others may be on the line
 not settled: a device from 0000:00000000 up may be missing
 1234:00000009 wasn't found: the run ended before it was clear whether it is there; it broke no rule until then
@@ -285,7 +285,7 @@ not settled: a device from 0000:00000000 up may be missing
 (exchange 5 has other bytes: a rule was broken, by it, another device or noise)
 exchange 5: bytes came after a mute of 1234:00000009 that don't acknowledge it: \
 they are too short for a response; a rule was broken, by a device or noise: \
-take 1234:00000009 off the line and discover again; if your rig has no such device, split the line
+take 1234:00000009 off the line and discover again
 status 3
 
 another UID's text from a broadcast UID alone
@@ -306,7 +306,7 @@ not settled: a device from 0000:00000000 up may be missing
 (exchange 3 has other bytes: a rule was broken, by it, another device or noise)
 exchange 3: bytes came after a mute of 1234:00000009 that don't acknowledge it: \
 they are too short for a response; a rule was broken, by a device or noise: \
-take 1234:00000009 off the line and discover again; if your rig has no such device, split the line
+take 1234:00000009 off the line and discover again
 status 3
 
 a device that is found, and silent after three more unmutes
@@ -398,7 +398,8 @@ a mute of a UID that is neither known nor read
 incremental 1234:00000001
 3 unmute; mute found; mute found > bound; 5 mute absent; all > new; mute new > bound; 5 all
 discovery: incremental, steady, 17 exchanges, 2 devices; \
-no other device is on the line if all follow the rules, but the run isn't regular: discover again
+no other device is on the line if all follow the rules, but the run isn't regular: discover again, \
+and suspect the controller or its log if the next one isn't either
 exchange 5 mutes a UID that no earlier branch had read
 1234:00000001 was found, and followed the rules
 9abc:00000002 was found, and followed the rules
@@ -408,7 +409,8 @@ a known UID that is muted only after a branch
 incremental 1234:00000001 5678:00000009 9abc:00000002
 3 unmute; mute found; mute found > bound; 5 mute absent; all > new; mute new > bound; 5 all
 discovery: incremental, steady, 17 exchanges, 2 devices; \
-no other device is on the line if all follow the rules, but the run isn't regular: discover again
+no other device is on the line if all follow the rules, but the run isn't regular: discover again, \
+and suspect the controller or its log if the next one isn't either
 9abc:00000002 is known, but wasn't muted before the first branch
 1234:00000001 was found, and followed the rules
 9abc:00000002 was found, and followed the rules
@@ -419,7 +421,8 @@ a full run that mutes known UIDs
 full 1234:00000001 5678:00000009
 3 unmute; mute found; mute found > bound; 5 mute absent; all > new; mute new > bound; 5 all
 discovery: full, steady, 17 exchanges, 2 devices; \
-no other device is on the line if all follow the rules, but the run isn't regular: discover again
+no other device is on the line if all follow the rules, but the run isn't regular: discover again, \
+and suspect the controller or its log if the next one isn't either
 exchange 3 mutes a UID that no earlier branch had read
 1234:00000001 was found, and followed the rules
 9abc:00000002 was found, and followed the rules

@@ -1,10 +1,12 @@
 -- What is printed for a run: the findings about exactly its exchanges.
 use Rattle.std.specs.Prelude.{◌≡◌, ℕ, Bool, ◌&&◌, ◌||◌, not, List, [], ◌∷◌, ◌++◌, Option, Some, None, flat_map, filter}
-use Rattle.std.specs.Prelude.{false, is_none, is_some, if◌then◌else◌, fold, length, nat_le, take, ◌+◌, ◌==◌}
-use Rattle.std.specs.List.{position}
-use Rattle.rdm_wire.specs.Uid.{has}
+use Rattle.std.specs.Prelude.{false, is_none, is_some, if◌then◌else◌, fold, length, nat_le, take, ◌==◌}
+use Rattle.std.specs.List.{list_any, position}
+use Rattle.rdm_wire.specs.Uid.{has, is_broadcast}
 use Rattle.rdm_wire.specs.Devices.{uids_of}
 use Rattle.rdm_agent.specs.Run.{acked_in}
+use Rattle.rdm_agent.specs.declared.fault.AgentFault.{AgentFault}
+use Rattle.rdm_agent.specs.declared.fault.AgentFault.TheVariants.{Corrupt}
 use Rattle.rdm_agent.specs.declared.limits.TheConstants.{MOST_APART, TRIES}
 use Rattle.rdm_agent.specs.declared.kind.Kind.{Kind}
 use Rattle.rdm_agent.specs.declared.kind.Kind.TheVariants.{Full, Incremental}
@@ -28,7 +30,7 @@ use Rattle.rdm_findings.specs.declared.heard.RunUids.{RunUids}
 use Rattle.rdm_findings.specs.declared.mention.Mention.{Mention}
 use Rattle.rdm_findings.specs.declared.mention.RunFacts.{RunFacts}
 use Rattle.rdm_findings.specs.DeviceText.{device_finding, culprit_finding, suspect_finding, gone_finding}
-use Rattle.rdm_findings.specs.Ends.{is_complete, is_whole, decides_stray, unmuted_at, is_garbled_mute}
+use Rattle.rdm_findings.specs.Ends.{is_complete, is_whole, decides_stray, end_of, unmuted_at, is_garbled_mute}
 use Rattle.rdm_findings.specs.FindingText.{head_finding, run_gaps, quiet_text, stray_finding, garbled_finding}
 use Rattle.rdm_findings.specs.FindingText.{unless_garbled, any_broke, answered_finding}
 use Rattle.rdm_findings.specs.Flaws.{may_be_noise}
@@ -125,6 +127,7 @@ pub record Finds (kind : Option Kind) (known : Option (List ℕ)) (present passi
   pub first_stray :
       FirstStray (listed (uids_of f.reported) present passing ++ f.culprits.items) passing xs f.stray
   pub first_garbled : FirstGarbled xs f.garbled
+  pub lists : f.expects ≡ not (length present == 0)
   -- the first exchange that misread each UID, the UIDs that were heard, and those that acknowledged a mute
   pub misread : (u : ℕ) → misread_in f.misreads u ≡ position (is_misread u) xs
   pub heard : (u : ℕ) → in_uids f.heard u ≡ has (heard_in (seen_all xs)) u
@@ -160,13 +163,13 @@ devices_text form r xs f =
     flat_map (device_finding form r f.misreads f.heard f.acked) f.devices.items
     ++ others_text form r xs f
 
--- how many of these devices acknowledged no mute, and n
-abbrev pub missing_after : RunUids → ℕ → List DeviceFinding → ℕ
-missing_after acked n fs = fold (λ n f. if in_uids acked f.uid then n else n + 1) n fs
+-- how many of these devices acknowledged no mute
+abbrev pub missing_of : RunUids → List DeviceFinding → ℕ
+missing_of acked fs = length (filter (λ f. not (in_uids acked f.uid)) fs)
 
 -- how many listed devices acknowledged no mute, if the log has all of the run
 abbrev pub missing_in : RunHead → List Exchange → Findings → ℕ
-missing_in head xs f = if shows_all head xs f then missing_after f.acked 0 f.devices.items else 0
+missing_in head xs f = if shows_all head xs f then missing_of f.acked f.devices.items else 0
 
 -- whether there is one such exchange alone
 abbrev pub is_only : Option Sighting → Bool
@@ -175,14 +178,7 @@ is_only (Some s) = s.more == 0
 
 -- whether one of these findings is about this UID
 abbrev pub any_about : ℕ → List DeviceFinding → Bool
-any_about u [] = false
-any_about u (f ∷ fs) = (f.uid == u) || any_about u fs
-
--- whether a line names a UID that no device should have: none that is listed, comes or leaves, or was known, and none
--- of those that answered alone and then acknowledged no mute
-abbrev pub is_nobody : Findings → Option Mention → Bool
-is_nobody f None = false
-is_nobody f (Some m) = not (has f.due.items m.uid || any_about m.uid f.gone.items)
+any_about u fs = list_any (λ f. f.uid == u) fs
 
 -- whether a run found all devices that stayed and followed the rules, and all that are listed, and one exchange alone
 -- has bytes that no honest line allows, which noise may have made, and no other has bytes though no device was due
@@ -195,24 +191,45 @@ is_calm head xs f =
 abbrev pub is_bad_answer : ℕ → Exchange → Bool
 is_bad_answer u e = is_misread u e || is_garbled_mute u e
 
--- how many of these exchanges are so, and n
-abbrev pub bad_after : ℕ → ℕ → List Exchange → ℕ
-bad_after u n xs = fold (λ n e. if is_bad_answer u e then n + 1 else n) n xs
+-- how many of these exchanges are so
+abbrev pub bad_answers : ℕ → List Exchange → ℕ
+bad_answers u xs = length (filter (is_bad_answer u) xs)
 
--- whether a line names a UID that had as many bad answers as a mute is tried, before an exchange failed
-abbrev pub is_stubborn : Option ℕ → List Exchange → Option Mention → Bool
-is_stubborn failure xs None = false
-is_stubborn failure xs (Some m) = nat_le TRIES (bad_after m.uid 0 (before_failure failure xs))
+-- whether u had as many bad answers as a mute is tried, before an exchange failed
+abbrev pub is_stubborn : Option ℕ → List Exchange → ℕ → Bool
+is_stubborn failure xs u = nat_le TRIES (bad_answers u (before_failure failure xs))
 
--- who is to blame for other bytes than noise
-abbrev pub if_stubborn : Bool → Cause
-if_stubborn stubborn = if stubborn then causes.Device else causes.Unclear
+-- the device's UID at which a run ended, if it is another than u
+abbrev pub other_end : Option (Option AgentFault) → ℕ → Option ℕ
+other_end (Some (Some (Corrupt v))) u = if (v == u) || is_broadcast v then None else Some v
+other_end _ u = None
+
+-- who may be to blame beside noise
+abbrev pub unclear_cause : (found : Bool) → Option ℕ → Cause
+unclear_cause found None = causes.Unclear found
+unclear_cause found (Some v) = causes.Other v
+
+-- Noise, in a run in which it may be alone to blame for the bytes of a UID that no device should have. A known device
+-- may have that UID, if it wasn't taken away
+abbrev pub calm_cause : Findings → ℕ → Cause
+calm_cause f u = if any_about u f.gone.items then causes.Gone else causes.Noise f.expects
+
+-- A device that had many bad answers, or that with which the run ended; or any one, or noise
+abbrev pub device_cause : RunHead → List Exchange → Findings → ℕ → Cause
+device_cause head xs f u =
+    if is_stubborn f.certificate.failure xs u then causes.Device (in_uids f.acked u)
+    else unclear_cause (in_uids f.acked u) (other_end (end_of head f.reported xs f.certificate) u)
+
+-- Who is to blame for bytes after u was asked, in a run that may be so. No device should have a UID that isn't listed,
+-- doesn't come or leave, and isn't one of those that answered alone and then acknowledged no mute
+abbrev pub cause_at : RunHead → List Exchange → Findings → ℕ → Cause
+cause_at head xs f u =
+    if is_calm head xs f && not (has f.due.items u) then calm_cause f u else device_cause head xs f u
 
 -- the same of bytes that a line names
 abbrev pub cause_by : RunHead → List Exchange → Findings → Option Mention → Cause
-cause_by head xs f mention =
-    if is_calm head xs f && is_nobody f mention then causes.Noise
-    else if_stubborn (is_stubborn f.certificate.failure xs mention)
+cause_by head xs f None = causes.Unclear false
+cause_by head xs f (Some m) = cause_at head xs f m.uid
 
 -- Who is probably to blame for the first bytes that no honest line allows. A device would have been found, or would
 -- have sent such bytes again, and noise seldom comes so often after one UID

@@ -5,6 +5,7 @@ use Rattle.std.specs.List.{list_all, position}
 use Rattle.rdm_wire.specs.Honest.{is_silent}
 use Rattle.rdm_wire.specs.Uid.{is_broadcast, is_within}
 use Rattle.rdm_wire.specs.UidText.{uid_text}
+use Rattle.rdm_wire.specs.Devices.{uids_of}
 use Rattle.rdm_wire.specs.declared.device.Device.{Device}
 use Rattle.rdm_agent.specs.declared.kind.Kind.{Kind}
 use Rattle.rdm_agent.specs.declared.kind.Kind.TheVariants.{Full, Incremental}
@@ -35,6 +36,7 @@ use Rattle.rdm_findings.specs.declared.form.Form.{Form}
 use Rattle.rdm_findings.specs.declared.form.Judgement.{Judgement}
 use Rattle.rdm_findings.specs.declared.form.Judgement.TheVariants as judged
 use Rattle.rdm_findings.specs.Ends.{is_complete, is_known_complete, is_over, is_lost, end_of, decides_stray}
+use Rattle.rdm_findings.specs.Ends.{never_muted}
 use Rattle.rdm_findings.specs.Flaws.{flaw_text}
 use Rattle.rdm_findings.specs.Forms.{finding, after_sentence, of_run, of_exchange, of_uid}
 use Rattle.rdm_findings.specs.RunJson.{run_start}
@@ -87,13 +89,25 @@ abbrev pub spent_text : Option ℕ → List ℕ
 spent_text None = codes " (its budget of frames is used up)"
 spent_text (Some budget) = codes " (its budget of " ++ count_text budget (codes " frame") ++ codes " is used up)"
 
--- what its fault is, in words
-abbrev pub reason_text : Option ℕ → AgentFault → List ℕ
-reason_text budget (Corrupt u) = codes " (it alone was asked, and the answers weren't a new device's)"
-reason_text budget TooMany = codes " (more than 1,024 devices answered)"
-reason_text budget Exhausted = spent_text budget
-reason_text budget LineFailed = codes " (the line failed)"
-reason_text budget Aborted = codes " (it was aborted)"
+-- why a UID ended a run. The flag says that it answered alone, and then acknowledged no mute
+abbrev pub corrupt_text : (unmuted : Bool) → List ℕ
+corrupt_text unmuted =
+    if unmuted then codes " (it answered alone and then acknowledged no mute)"
+    else codes " (it alone was asked, and the answers weren't a new device's)"
+
+-- whether a UID is this one
+abbrev pub is_this : Option ℕ → ℕ → Bool
+is_this None u = false
+is_this (Some v) u = v == u
+
+-- what its fault is, in words. The second one is the UID that answered alone and then acknowledged no mute, if the
+-- last exchanges show one
+abbrev pub reason_text : (budget unmuted : Option ℕ) → AgentFault → List ℕ
+reason_text budget unmuted (Corrupt u) = corrupt_text (is_this unmuted u)
+reason_text budget unmuted TooMany = codes " (more than 1,024 devices answered)"
+reason_text budget unmuted Exhausted = spent_text budget
+reason_text budget unmuted LineFailed = codes " (the line failed)"
+reason_text budget unmuted Aborted = codes " (it was aborted)"
 
 -- that it ended early, and at which UID, if its answers ended it
 abbrev pub early_text : AgentFault → List ℕ
@@ -101,17 +115,18 @@ early_text (Corrupt u) = codes "ended early at " ++ uid_text u
 early_text _ = codes "ended early"
 
 -- how it ended, if that is known
-abbrev pub end_text : Option ℕ → Option (Option AgentFault) → List ℕ
-end_text budget None = []
-end_text budget (Some None) = codes ", no fault"
-end_text budget (Some (Some fault)) = codes ", " ++ early_text fault ++ reason_text budget fault
+abbrev pub end_text : (budget unmuted : Option ℕ) → Option (Option AgentFault) → List ℕ
+end_text budget unmuted None = []
+end_text budget unmuted (Some None) = codes ", no fault"
+end_text budget unmuted (Some (Some fault)) = codes ", " ++ early_text fault ++ reason_text budget unmuted fault
 
 -- a certificate of which no part fails but those that depend on known UIDs. It shows that no device is on the line but
 -- those that the run reports, unless one broke a rule
 abbrev pub sound_text : Option Kind → Option KnownFinding → List ℕ
 sound_text kind (Some names) =
     if is_known_complete names then codes "; no other device is on the line if all follow the rules"
-    else codes "; no other device is on the line if all follow the rules, but the run isn't regular: discover again"
+    else codes "; no other device is on the line if all follow the rules, but the run isn't regular: discover again, "
+    ++ codes "and suspect the controller or its log if the next one isn't either"
 sound_text None None =
     codes "; no other device is on the line if all follow the rules; the log doesn't have the run's kind"
 sound_text (Some kind) None =
@@ -167,13 +182,15 @@ abbrev pub devices_count : (devices missing : ℕ) → List ℕ
 devices_count devices missing = count_text devices (codes " device") ++ missing_text missing
 
 -- how it ended, and how many devices it reports
-abbrev pub outcome_text : Option ℕ → Option (Option AgentFault) → (devices missing : ℕ) → List ℕ
-outcome_text budget ending devices missing = end_text budget ending ++ codes ", " ++ devices_count devices missing
+abbrev pub outcome_text : (budget unmuted : Option ℕ) → Option (Option AgentFault) → (devices missing : ℕ) → List ℕ
+outcome_text budget unmuted ending devices missing =
+    end_text budget unmuted ending ++ codes ", " ++ devices_count devices missing
 
 -- what the run was, how many exchanges it had, how it ended, if that is known, and how many devices it had
-abbrev pub head_text : RunHead → Option (Option AgentFault) → (exchanges devices missing : ℕ) → List ℕ
-head_text head ending exchanges devices missing =
-    what_text head ++ count_text exchanges (codes " exchange") ++ outcome_text head.budget ending devices missing
+abbrev pub head_text : RunHead → (unmuted : Option ℕ) → Option (Option AgentFault) → (exchanges devices missing : ℕ)
+    → List ℕ
+head_text head unmuted ending exchanges devices missing =
+    what_text head ++ count_text exchanges (codes " exchange") ++ outcome_text head.budget unmuted ending devices missing
 
 -- whether gaps of the certificate are those of the run, and not only of its log: no exchange came after these, or none
 -- could mend them
@@ -184,7 +201,7 @@ decides_gaps head reported xs f names = is_over head reported xs f || is_lost xs
 abbrev pub head_sentence : RunHead → List Device → (missing : ℕ) → List Exchange → RunFinding → Option KnownFinding
     → List ℕ
 head_sentence head reported missing xs f names =
-    head_text head (end_of head reported xs f) (length xs) (length reported) missing
+    head_text head (never_muted (uids_of reported) xs) (end_of head reported xs f) (length xs) (length reported) missing
     ++ certificate_text head (decides_gaps head reported xs f names) f names
 
 -- the first finding of a run
@@ -376,35 +393,69 @@ unless_garbled None stray = stray
 unless_garbled (Some garbled) None = None
 unless_garbled (Some garbled) (Some s) = if s.at == garbled.at then None else Some s
 
--- what is probably to blame for bytes that no honest line allows, whichever devices are on it, after u was asked, and
--- what to do. No device can be taken off the line if none has this UID
-abbrev pub cause_text : Cause → ℕ → List ℕ
-cause_text causes.Noise u =
-    codes "; a rule was broken, probably by noise: " ++ uid_text u
-    ++ codes " isn't listed, and all listed devices were found; if it happens again, check the cable and its terminator"
-cause_text causes.Device u =
-    codes "; a rule was broken, by a device rather than noise: take " ++ uid_text u
-    ++ codes " off the line and discover again; if your rig has no such device, split the line"
-cause_text causes.Unclear u =
-    codes "; a rule was broken, by a device or noise: take " ++ uid_text u
-    ++ codes " off the line and discover again; if your rig has no such device, split the line"
+-- Why noise is probably to blame after u was asked, before its UID. The flag says that devices are listed beside those
+-- that were found
+abbrev pub nobody_before : (expects : Bool) → ℕ → List ℕ
+nobody_before expects u =
+    if is_broadcast u then codes "no device may have " else (if expects then [] else codes "no device with ")
 
--- the same. A broadcast UID is no device's, so no single one can be taken off the line
-abbrev pub each_text : Cause → ℕ → List ℕ
-each_text cause u =
-    if is_broadcast u then codes "; a rule was broken, by a device or noise: split the line and discover each half"
-    else cause_text cause u
+-- and after it
+abbrev pub nobody_after : (expects : Bool) → ℕ → List ℕ
+nobody_after expects u =
+    if is_broadcast u then []
+    else (if expects then codes " isn't listed, and all listed devices were found" else codes " was found")
+
+-- both
+abbrev pub nobody_text : (expects : Bool) → ℕ → List ℕ
+nobody_text expects u = nobody_before expects u ++ uid_text u ++ nobody_after expects u
+
+-- what to do with the device of a UID. A device that was found has it
+abbrev pub after_take : (found : Bool) → List ℕ
+after_take found =
+    if found then codes " off the line and discover again"
+    else codes " off the line and discover again; if your rig has no such device, split the line"
+
+-- what to do about u. A broadcast UID is no device's, so no single one can be taken off the line
+abbrev pub off_text : (found : Bool) → ℕ → List ℕ
+off_text found u =
+    if is_broadcast u then codes "split the line and discover each half"
+    else codes "take " ++ uid_text u ++ after_take found
+
+-- whether a device or noise broke a rule
+abbrev pub who_text : Cause → List ℕ
+who_text (causes.Device found) = codes "; a rule was broken, by a device rather than noise: "
+who_text _ = codes "; a rule was broken, by a device or noise: "
+
+-- what to do first, if a run ended at v
+abbrev pub first_off : ℕ → List ℕ
+first_off v = codes "first take " ++ uid_text v ++ codes ", at which the run ended, off the line and discover again"
+
+-- what is probably to blame for bytes that no honest line allows, whichever devices are on it, after u was asked, and
+-- what to do
+abbrev pub cause_text : Cause → ℕ → List ℕ
+cause_text (causes.Noise expects) u =
+    codes "; a rule was broken, probably by noise: " ++ nobody_text expects u
+    ++ codes "; if it happens again, check the cable and its terminator"
+cause_text causes.Gone u =
+    codes "; a rule was broken, probably by noise if you took " ++ uid_text u
+    ++ codes " away; if it is still there, take it off the line and discover again"
+cause_text (causes.Device found) u = who_text (causes.Device found) ++ off_text found u
+cause_text (causes.Unclear found) u = who_text (causes.Unclear found) ++ off_text found u
+cause_text (causes.Other v) u = who_text (causes.Other v) ++ first_off v
 
 -- which device to take off the line next
 abbrev pub then_text : ℕ → List ℕ
 then_text u = if is_broadcast u then [] else codes "; then " ++ uid_text u
 
+-- what to do after a branch of u alone that reads as v
+abbrev pub turns_text : Cause → (u v : ℕ) → List ℕ
+turns_text (causes.Other w) u v = first_off w
+turns_text _ u v = off_text true v ++ then_text u
+
 -- The same after a branch of u alone, if the bytes are the text of v. Device v may have sent its own UID; but u or
 -- another one may have sent it, or replies that collide read so
-abbrev pub both_text : (u v : ℕ) → List ℕ
-both_text u v =
-    codes "; they read as " ++ uid_text v ++ codes "; a rule was broken, by a device or noise: take "
-    ++ (uid_text v ++ codes " off the line and discover again" ++ then_text u)
+abbrev pub both_text : Cause → (u v : ℕ) → List ℕ
+both_text cause u v = codes "; they read as " ++ uid_text v ++ (who_text cause ++ turns_text cause u v)
 
 -- why bytes are no right answer, if that is known
 abbrev pub why_text : Option Flaw → List ℕ
@@ -413,11 +464,11 @@ why_text (Some flaw) = codes ": " ++ flaw_text flaw
 
 -- the same, and what to do
 abbrev pub wrong_text : Cause → Option Flaw → ℕ → List ℕ
-wrong_text cause flaw u = why_text flaw ++ each_text cause u
+wrong_text cause flaw u = why_text flaw ++ cause_text cause u
 
 -- what to do after a branch of u alone
 abbrev pub reply_text : Cause → Option Flaw → ℕ → Heard → List ℕ
-reply_text cause flaw u (One v) = if is_broadcast v then each_text cause u else both_text u v
+reply_text cause flaw u (One v) = if is_broadcast v then cause_text cause u else both_text cause u v
 reply_text cause flaw u _ = wrong_text cause flaw u
 
 -- after a branch of u alone: bytes that aren't its text

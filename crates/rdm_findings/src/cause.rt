@@ -1,56 +1,65 @@
 //! Who is probably to blame for bytes that no honest line allows.
 ghost use Rattle.std.specs.Prelude.{◌≡◌};
-ghost use Rattle.rdm_findings.specs.Explained.{bad_after, if_stubborn, is_bad_answer, is_stubborn};
+ghost use Rattle.rdm_findings.specs.Explained.{bad_answers, is_bad_answer, is_stubborn, other_end, unclear_cause};
 
 use crate::ending::is_garbled_mute;
 use crate::listing::before_failure;
-use crate::mention::Mention;
 use crate::misread::is_misread;
-use rdm_agent::TRIES;
+use rdm_agent::{AgentFault, TRIES};
 use rdm_explain::Exchange;
 use rdm_wire::Uid;
 
 /// Who is probably to blame for bytes that no honest line allows.
 #[derive(Clone, Copy)]
 pub(crate) enum Cause {
-    /// Noise.
-    Noise,
-    /// The device that was asked.
-    Device,
-    /// A device or noise.
-    Unclear,
+    /// Noise. The flag says that devices are listed beside those that were found.
+    Noise(bool),
+    /// Noise, unless a known device is still there.
+    Gone,
+    /// The device that was asked. The flag says that it was found.
+    Device(bool),
+    /// A device or noise. The flag says the same.
+    Unclear(bool),
+    /// A device or noise. The run ended at another device's UID.
+    Other(Uid),
 }
 
-/// Who is to blame for other bytes than noise.
-pub(crate) fn if_stubborn(stubborn: bool) -> Cause
-    ensures { result ≡ if_stubborn stubborn }
+/// Who may be to blame beside noise. `other` is another device's UID at which the run ended.
+pub(crate) fn unclear_cause(found: bool, other: Option<Uid>) -> Cause
+    ensures { result ≡ unclear_cause found other }
 {
-    if stubborn {
-        Cause::Device
-    } else {
-        Cause::Unclear
+    match other {
+        Some(uid) => Cause::Other(uid),
+        None => Cause::Unclear(found),
     }
 }
 
-/// Whether a line names a UID that had as many bad answers as a mute is tried, before an exchange failed.
-pub(crate) fn is_stubborn(
-    failure: Option<usize>,
-    exchanges: &[Exchange],
-    mention: &Option<Mention>,
-) -> bool
-    ensures { result ≡ is_stubborn failure exchanges.now mention.now }
+/// The device's UID at which a run ended, if it is another one.
+pub(crate) fn other_end(ending: Option<Option<AgentFault>>, uid: Uid) -> Option<Uid>
+    ensures { result ≡ other_end ending uid }
 {
-    match mention {
-        Some(mention) => {
-            TRIES as usize <= bad_answers(mention.uid, before_failure(failure, exchanges))
+    match ending {
+        Some(Some(AgentFault::Corrupt(end))) => {
+            if end == uid || end.is_broadcast() {
+                None
+            } else {
+                Some(end)
+            }
         }
-        None => false,
+        _ => None,
     }
+}
+
+/// Whether a UID had as many bad answers as a mute is tried, before an exchange failed.
+pub(crate) fn is_stubborn(failure: Option<usize>, exchanges: &[Exchange], uid: Uid) -> bool
+    ensures { result ≡ is_stubborn failure exchanges.now uid }
+{
+    TRIES as usize <= bad_answers(uid, before_failure(failure, exchanges))
 }
 
 // How often a UID was asked alone or muted, and bytes came that are no right answer.
 fn bad_answers(uid: Uid, exchanges: &[Exchange]) -> usize
-    ensures { result ≡ bad_after uid 0 exchanges.now }
+    ensures { result ≡ bad_answers uid exchanges.now }
 {
     let mut bad = 0;
     for exchange in exchanges {

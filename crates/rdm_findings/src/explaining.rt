@@ -7,14 +7,14 @@ ghost use Rattle.rdm_findings.specs.Ends.{decides_stray};
 ghost use Rattle.rdm_findings.specs.Explained.{first_of, ExplainsNames, Finds, gone_of};
 ghost use Rattle.rdm_findings.specs.Explained.{findings_text, IsExplained, shows_all, is_broken, stray_of, facts_of};
 ghost use Rattle.rdm_findings.specs.Explained.{devices_text, others_text, bytes_text, run_text};
-ghost use Rattle.rdm_findings.specs.Explained.{missing_after, missing_in};
-ghost use Rattle.rdm_findings.specs.Explained.{any_about, cause_by, cause_of, is_calm, is_nobody, is_only};
-ghost use Rattle.rdm_findings.specs.Explained.{if_stubborn, is_stubborn};
+ghost use Rattle.rdm_findings.specs.Explained.{missing_of, missing_in};
+ghost use Rattle.rdm_findings.specs.Explained.{any_about, cause_at, cause_by, cause_of, is_calm, is_only};
+ghost use Rattle.rdm_findings.specs.Explained.{calm_cause, device_cause};
 ghost use Rattle.rdm_findings.specs.RunJson.{before_run, run_end};
 
-use crate::cause::{Cause, if_stubborn, is_stubborn};
+use crate::cause::{Cause, is_stubborn, other_end, unclear_cause};
 use crate::device_text::write_devices;
-use crate::ending::{decides_stray, is_whole};
+use crate::ending::{decides_stray, end_of, is_whole};
 use crate::flaw::may_be_noise;
 use crate::form::Form;
 use crate::gap_text::{write_quiet, write_run_gaps};
@@ -68,6 +68,8 @@ struct Findings {
     misreads: Misreads,
     heard: RunUids,
     acked: RunUids,
+    // Whether devices are listed beside the reported ones.
+    expects: bool,
 }
 
 /// What the exchanges of a run show, a finding a line:
@@ -148,6 +150,7 @@ fn find(
         due,
         reported,
         acked,
+        expects: !present.is_empty(),
     })
 }
 
@@ -280,7 +283,7 @@ fn missing_in(head: &RunHead, exchanges: &[Exchange], found: &Findings) -> usize
 }
 
 fn missing_of(acked: &RunUids, devices: &[DeviceFinding]) -> usize
-    ensures { result ≡ missing_after acked.now 0 devices.now }
+    ensures { result ≡ missing_of acked.now devices.now }
 {
     let mut missing = 0;
     for device in devices {
@@ -382,11 +385,44 @@ fn cause_by(
 ) -> Cause
     ensures { result ≡ cause_by head.now exchanges.now found.now mention.now }
 {
-    if is_calm(head, exchanges, found) && is_nobody(found, mention) {
-        Cause::Noise
-    } else {
-        if_stubborn(is_stubborn(found.certificate.failure, exchanges, mention))
+    match mention {
+        Some(mention) => cause_at(head, exchanges, found, mention.uid),
+        None => Cause::Unclear(false),
     }
+}
+
+// The same for bytes after this UID was asked.
+fn cause_at(head: &RunHead, exchanges: &[Exchange], found: &Findings, uid: Uid) -> Cause
+    ensures { result ≡ cause_at head.now exchanges.now found.now uid }
+{
+    if is_calm(head, exchanges, found) && !has(&found.due, uid) {
+        calm_cause(found, uid)
+    } else {
+        device_cause(head, exchanges, found, uid)
+    }
+}
+
+// Noise; but a known device may have the UID, if it wasn't taken away.
+fn calm_cause(found: &Findings, uid: Uid) -> Cause
+    ensures { result ≡ calm_cause found.now uid }
+{
+    if any_about(uid, &found.gone) {
+        Cause::Gone
+    } else {
+        Cause::Noise(found.expects)
+    }
+}
+
+// A device, or noise.
+fn device_cause(head: &RunHead, exchanges: &[Exchange], found: &Findings, uid: Uid) -> Cause
+    ensures { result ≡ device_cause head.now exchanges.now found.now uid }
+{
+    let acked = found.acked.contains(uid);
+    if is_stubborn(found.certificate.failure, exchanges, uid) {
+        return Cause::Device(acked);
+    }
+    let ending = end_of(head, &found.reported, exchanges, &found.certificate);
+    unclear_cause(acked, other_end(ending, uid))
 }
 
 // Whether a run found all devices, and one exchange alone has bytes that no honest line allows, which noise may have
@@ -407,16 +443,6 @@ fn is_only(sighting: Option<Sighting>) -> bool
 {
     match sighting {
         Some(first) => first.more == 0,
-        None => false,
-    }
-}
-
-// Whether a line names a UID that no device should have.
-fn is_nobody(found: &Findings, mention: &Option<Mention>) -> bool
-    ensures { result ≡ is_nobody found.now mention.now }
-{
-    match mention {
-        Some(mention) => !(has(&found.due, mention.uid) || any_about(mention.uid, &found.gone)),
         None => false,
     }
 }

@@ -1,7 +1,9 @@
 //! What is printed about bytes that no honest line allows, whichever devices are on it.
-ghost use Rattle.std.specs.Prelude.{◌≡◌, ◌++◌, OnOk, codes};
+ghost use Rattle.std.specs.Prelude.{◌≡◌, ◌++◌, OnOk, codes, true};
 ghost use Rattle.rdm_wire.specs.UidText.{uid_text};
-ghost use Rattle.rdm_findings.specs.FindingText.{sighting_name, cause_text, each_text, reply_text, garbled_text};
+ghost use Rattle.rdm_findings.specs.FindingText.{sighting_name, cause_text, reply_text, garbled_text};
+ghost use Rattle.rdm_findings.specs.FindingText.{nobody_before, nobody_after, nobody_text, after_take, off_text};
+ghost use Rattle.rdm_findings.specs.FindingText.{who_text, first_off, turns_text};
 ghost use Rattle.rdm_findings.specs.FindingText.{same_why, off_advice, same_text, own_text, other_bytes};
 ghost use Rattle.rdm_findings.specs.FindingText.{both_text, then_text, why_text, unacked_text, wrong_text};
 ghost use Rattle.rdm_findings.specs.FindingText.{garbled_found, garbled_finding, asked_uid, of_garbled};
@@ -245,72 +247,145 @@ fn write_wrong(
     ensures { OnOk result (text.new.items ≡ text.old.items ++ wrong_text cause flaw uid) }
 {
     write_why(text, flaw)?;
-    write_each(text, cause, uid)
+    write_cause(text, cause, uid)
 }
-
-// What to do, whatever the bytes are.
-fn write_each(text: &mut Vec<u8>, cause: Cause, uid: Uid) -> Result<(), AllocError>
-    ensures { OnOk result (text.new.items ≡ text.old.items ++ each_text cause uid) }
-{
-    if uid.is_broadcast() {
-        write(text, EACH_HALF)
-    } else {
-        write_cause(text, cause, uid)
-    }
-}
-
-// A broadcast UID is no device's.
-const EACH_HALF: &str =
-    "; a rule was broken, by a device or noise: split the line and discover each half";
 
 // Who is probably to blame, and what to do.
 fn write_cause(text: &mut Vec<u8>, cause: Cause, uid: Uid) -> Result<(), AllocError>
     ensures { OnOk result (text.new.items ≡ text.old.items ++ cause_text cause uid) }
 {
     match cause {
-        Cause::Noise => write_noise(text, uid),
-        Cause::Device => write_device(text, uid),
-        Cause::Unclear => write_off(text, uid),
+        Cause::Noise(expects) => write_noise(text, expects, uid),
+        Cause::Gone => write_gone(text, uid),
+        Cause::Device(found) => write_device(text, found, uid),
+        Cause::Unclear(found) => write_unclear(text, found, uid),
+        Cause::Other(end) => write_other(text, end),
     }
 }
 
-fn write_noise(text: &mut Vec<u8>, uid: Uid) -> Result<(), AllocError>
+fn write_noise(text: &mut Vec<u8>, expects: bool, uid: Uid) -> Result<(), AllocError>
     ensures { OnOk result (text.new.items ≡ text.old.items
-        ++ (codes "; a rule was broken, probably by noise: " ++ uid_text uid ++ codes
-        " isn't listed, and all listed devices were found; if it happens again, check the cable and its terminator")) }
+        ++ (codes "; a rule was broken, probably by noise: " ++ nobody_text expects uid
+        ++ codes "; if it happens again, check the cable and its terminator")) }
 {
     write(text, "; a rule was broken, probably by noise: ")?;
-    write_uid(text, uid)?;
-    write(text, NOT_LISTED)
-}
-
-const NOT_LISTED: &str =
-    " isn't listed, and all listed devices were found; if it happens again, check the cable and its terminator";
-
-fn write_device(text: &mut Vec<u8>, uid: Uid) -> Result<(), AllocError>
-    ensures { OnOk result (text.new.items ≡ text.old.items
-        ++ (codes "; a rule was broken, by a device rather than noise: take " ++ uid_text uid
-        ++ codes " off the line and discover again; if your rig has no such device, split the line")) }
-{
+    write_nobody(text, expects, uid)?;
     write(
         text,
-        "; a rule was broken, by a device rather than noise: take ",
-    )?;
-    write_uid(text, uid)?;
-    write(text, OFF_OR_SPLIT)
+        "; if it happens again, check the cable and its terminator",
+    )
 }
 
-const OFF_OR_SPLIT: &str =
-    " off the line and discover again; if your rig has no such device, split the line";
-
-fn write_off(text: &mut Vec<u8>, uid: Uid) -> Result<(), AllocError>
-    ensures { OnOk result (text.new.items ≡ text.old.items
-        ++ (codes "; a rule was broken, by a device or noise: take " ++ uid_text uid
-        ++ codes " off the line and discover again; if your rig has no such device, split the line")) }
+// Why no device should have the UID.
+fn write_nobody(text: &mut Vec<u8>, expects: bool, uid: Uid) -> Result<(), AllocError>
+    ensures { OnOk result (text.new.items ≡ text.old.items ++ nobody_text expects uid) }
 {
-    write(text, "; a rule was broken, by a device or noise: take ")?;
+    write(text, nobody_before(expects, uid))?;
     write_uid(text, uid)?;
-    write(text, OFF_OR_SPLIT)
+    write(text, nobody_after(expects, uid))
+}
+
+fn nobody_before(expects: bool, uid: Uid) -> &'static str
+    ensures { result.now ≡ nobody_before expects uid }
+{
+    if uid.is_broadcast() {
+        "no device may have "
+    } else if expects {
+        ""
+    } else {
+        "no device with "
+    }
+}
+
+fn nobody_after(expects: bool, uid: Uid) -> &'static str
+    ensures { result.now ≡ nobody_after expects uid }
+{
+    if uid.is_broadcast() {
+        ""
+    } else if expects {
+        " isn't listed, and all listed devices were found"
+    } else {
+        " was found"
+    }
+}
+
+fn write_gone(text: &mut Vec<u8>, uid: Uid) -> Result<(), AllocError>
+    ensures { OnOk result (text.new.items ≡ text.old.items
+        ++ (codes "; a rule was broken, probably by noise if you took " ++ uid_text uid
+        ++ codes " away; if it is still there, take it off the line and discover again")) }
+{
+    write(text, "; a rule was broken, probably by noise if you took ")?;
+    write_uid(text, uid)?;
+    write(
+        text,
+        " away; if it is still there, take it off the line and discover again",
+    )
+}
+
+fn write_device(text: &mut Vec<u8>, found: bool, uid: Uid) -> Result<(), AllocError>
+    ensures { OnOk result (text.new.items ≡ text.old.items
+        ++ (codes "; a rule was broken, by a device rather than noise: " ++ off_text found uid)) }
+{
+    write(text, "; a rule was broken, by a device rather than noise: ")?;
+    write_off(text, found, uid)
+}
+
+fn write_unclear(text: &mut Vec<u8>, found: bool, uid: Uid) -> Result<(), AllocError>
+    ensures { OnOk result (text.new.items ≡ text.old.items
+        ++ (codes "; a rule was broken, by a device or noise: " ++ off_text found uid)) }
+{
+    write(text, "; a rule was broken, by a device or noise: ")?;
+    write_off(text, found, uid)
+}
+
+fn write_other(text: &mut Vec<u8>, end: Uid) -> Result<(), AllocError>
+    ensures { OnOk result (text.new.items ≡ text.old.items
+        ++ (codes "; a rule was broken, by a device or noise: " ++ first_off end)) }
+{
+    write(text, "; a rule was broken, by a device or noise: ")?;
+    write_first_off(text, end)
+}
+
+// What to do first, if the run ended at this UID.
+fn write_first_off(text: &mut Vec<u8>, end: Uid) -> Result<(), AllocError>
+    ensures { OnOk result (text.new.items ≡ text.old.items ++ first_off end) }
+{
+    write(text, "first take ")?;
+    write_uid(text, end)?;
+    write(
+        text,
+        ", at which the run ended, off the line and discover again",
+    )
+}
+
+// What to do about a UID.
+fn write_off(text: &mut Vec<u8>, found: bool, uid: Uid) -> Result<(), AllocError>
+    ensures { OnOk result (text.new.items ≡ text.old.items ++ off_text found uid) }
+{
+    if uid.is_broadcast() {
+        write(text, "split the line and discover each half")
+    } else {
+        write_take(text, found, uid)
+    }
+}
+
+fn write_take(text: &mut Vec<u8>, found: bool, uid: Uid) -> Result<(), AllocError>
+    ensures { OnOk result (text.new.items ≡ text.old.items
+        ++ (codes "take " ++ uid_text uid ++ after_take found)) }
+{
+    write(text, "take ")?;
+    write_uid(text, uid)?;
+    write(text, after_take(found))
+}
+
+fn after_take(found: bool) -> &'static str
+    ensures { result.now ≡ after_take found }
+{
+    if found {
+        " off the line and discover again"
+    } else {
+        " off the line and discover again; if your rig has no such device, split the line"
+    }
 }
 
 fn write_spelt(
@@ -323,36 +398,52 @@ fn write_spelt(
     ensures { OnOk result (text.new.items ≡ text.old.items ++ reply_text cause flaw uid (Heard.One read)) }
 {
     if read.is_broadcast() {
-        write_each(text, cause, uid)
+        write_cause(text, cause, uid)
     } else {
-        write_both(text, uid, read)
+        write_both(text, cause, uid, read)
     }
 }
 
 // The bytes are the text of another UID.
-fn write_both(text: &mut Vec<u8>, uid: Uid, read: Uid) -> Result<(), AllocError>
-    ensures { OnOk result (text.new.items ≡ text.old.items ++ both_text uid read) }
-{
-    write_read(text, read)?;
-    write_turns(text, uid, read)
-}
-
-fn write_read(text: &mut Vec<u8>, read: Uid) -> Result<(), AllocError>
-    ensures { OnOk result (text.new.items ≡ text.old.items ++ (codes "; they read as " ++ uid_text read
-        ++ codes "; a rule was broken, by a device or noise: take ")) }
+fn write_both(text: &mut Vec<u8>, cause: Cause, uid: Uid, read: Uid) -> Result<(), AllocError>
+    ensures { OnOk result (text.new.items ≡ text.old.items ++ both_text cause uid read) }
 {
     write(text, "; they read as ")?;
     write_uid(text, read)?;
-    write(text, "; a rule was broken, by a device or noise: take ")
+    write_blame(text, cause, uid, read)
 }
 
-// Which of the two is taken off first.
-fn write_turns(text: &mut Vec<u8>, uid: Uid, read: Uid) -> Result<(), AllocError>
-    ensures { OnOk result (text.new.items ≡ text.old.items
-        ++ (uid_text read ++ codes " off the line and discover again" ++ then_text uid)) }
+fn write_blame(text: &mut Vec<u8>, cause: Cause, uid: Uid, read: Uid) -> Result<(), AllocError>
+    ensures { OnOk result (text.new.items ≡ text.old.items ++ (who_text cause ++ turns_text cause uid read)) }
 {
-    write_uid(text, read)?;
-    write(text, " off the line and discover again")?;
+    write(text, who_text(cause))?;
+    write_turns(text, cause, uid, read)
+}
+
+// Whether a device or noise broke a rule.
+fn who_text(cause: Cause) -> &'static str
+    ensures { result.now ≡ who_text cause }
+{
+    match cause {
+        Cause::Device(_) => "; a rule was broken, by a device rather than noise: ",
+        _ => "; a rule was broken, by a device or noise: ",
+    }
+}
+
+fn write_turns(text: &mut Vec<u8>, cause: Cause, uid: Uid, read: Uid) -> Result<(), AllocError>
+    ensures { OnOk result (text.new.items ≡ text.old.items ++ turns_text cause uid read) }
+{
+    match cause {
+        Cause::Other(end) => write_first_off(text, end),
+        _ => write_in_turn(text, uid, read),
+    }
+}
+
+// The two UIDs, one after the other.
+fn write_in_turn(text: &mut Vec<u8>, uid: Uid, read: Uid) -> Result<(), AllocError>
+    ensures { OnOk result (text.new.items ≡ text.old.items ++ (off_text true read ++ then_text uid)) }
+{
+    write_off(text, true, read)?;
     write_then(text, uid)
 }
 

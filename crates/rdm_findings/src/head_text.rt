@@ -6,17 +6,18 @@ ghost use Rattle.rdm_findings.specs.FindingText.{sound_text, gap_text, begun_tex
 ghost use Rattle.rdm_findings.specs.Ends.{end_of};
 ghost use Rattle.rdm_findings.specs.FindingText.{head_text, head_finding, head_sentence, reason_text, spent_text};
 ghost use Rattle.rdm_findings.specs.FindingText.{count_text, missing_text, devices_count, early_text};
+ghost use Rattle.rdm_findings.specs.FindingText.{corrupt_text, is_this};
 ghost use Rattle.rdm_findings.specs.FindingText.{sound_judgement, begun_judgement, run_judgement};
 ghost use Rattle.rdm_findings.specs.Forms.{after_sentence};
 
-use crate::ending::{end_of, is_complete, is_known_complete, is_lost, is_over};
+use crate::ending::{end_of, is_complete, is_known_complete, is_lost, is_over, never_muted};
 use crate::form::{About, Form, Judgement, end};
 use crate::head::{RunHead, Start};
 use crate::run_json::write_run_start;
 use crate::writing::{write, write_count, write_number, write_uid};
 use rdm_agent::{AgentFault, Kind, Search};
 use rdm_explain::{Exchange, KnownFinding, RunFinding};
-use rdm_wire::DeviceSet;
+use rdm_wire::{DeviceSet, Uid};
 use std::alloc::AllocError;
 
 /// Writes the first finding of a run, which didn't find so many listed devices. In JSON the run's members precede it.
@@ -55,7 +56,15 @@ fn write_sentence(
 {
     let ending = end_of(head, reported, exchanges, certificate);
     let decided = decides_gaps(head, reported, exchanges, certificate, names);
-    write_run(text, head, ending, exchanges.len(), reported.len(), missing)?;
+    write_run(
+        text,
+        head,
+        never_muted(reported, exchanges),
+        ending,
+        exchanges.len(),
+        reported.len(),
+        missing,
+    )?;
     write(text, certificate_text(head, decided, certificate, names))
 }
 
@@ -124,17 +133,18 @@ fn decides_gaps(
 fn write_run(
     text: &mut Vec<u8>,
     head: &RunHead,
+    unmuted: Option<Uid>,
     ending: Option<Option<AgentFault>>,
     exchanges: usize,
     reported: usize,
     missing: usize,
 ) -> Result<(), AllocError>
     ensures { OnOk result (text.new.items ≡ text.old.items
-        ++ head_text head.now ending exchanges reported missing) }
+        ++ head_text head.now unmuted ending exchanges reported missing) }
 {
     write_what(text, head)?;
     write_count(text, exchanges as u64, " exchange")?;
-    write_outcome(text, head.budget, ending, reported, missing)
+    write_outcome(text, head.budget, unmuted, ending, reported, missing)
 }
 
 // The run's name, its kind, and how it searched.
@@ -190,13 +200,14 @@ fn search_text(search: Option<Search>) -> &'static str
 fn write_outcome(
     text: &mut Vec<u8>,
     budget: Option<u64>,
+    unmuted: Option<Uid>,
     ending: Option<Option<AgentFault>>,
     reported: usize,
     missing: usize,
 ) -> Result<(), AllocError>
-    ensures { OnOk result (text.new.items ≡ text.old.items ++ outcome_text budget ending reported missing) }
+    ensures { OnOk result (text.new.items ≡ text.old.items ++ outcome_text budget unmuted ending reported missing) }
 {
-    write_ending(text, budget, ending)?;
+    write_ending(text, budget, unmuted, ending)?;
     write(text, ", ")?;
     write_devices_count(text, reported, missing)
 }
@@ -237,14 +248,15 @@ fn write_several(text: &mut Vec<u8>, missing: usize) -> Result<(), AllocError>
 fn write_ending(
     text: &mut Vec<u8>,
     budget: Option<u64>,
+    unmuted: Option<Uid>,
     ending: Option<Option<AgentFault>>,
 ) -> Result<(), AllocError>
-    ensures { OnOk result (text.new.items ≡ text.old.items ++ end_text budget ending) }
+    ensures { OnOk result (text.new.items ≡ text.old.items ++ end_text budget unmuted ending) }
 {
     match ending {
         None => Ok(()),
         Some(None) => write(text, ", no fault"),
-        Some(Some(fault)) => write_explained(text, budget, &fault),
+        Some(Some(fault)) => write_explained(text, budget, unmuted, &fault),
     }
 }
 
@@ -252,32 +264,51 @@ fn write_ending(
 fn write_explained(
     text: &mut Vec<u8>,
     budget: Option<u64>,
+    unmuted: Option<Uid>,
     fault: &AgentFault,
 ) -> Result<(), AllocError>
     ensures { OnOk result (text.new.items ≡ text.old.items
-        ++ (codes ", " ++ early_text fault.now ++ reason_text budget fault.now)) }
+        ++ (codes ", " ++ early_text fault.now ++ reason_text budget unmuted fault.now)) }
 {
     write(text, ", ")?;
     write_early(text, fault)?;
-    write_reason(text, budget, fault)
+    write_reason(text, budget, unmuted, fault)
 }
 
 fn write_reason(
     text: &mut Vec<u8>,
     budget: Option<u64>,
+    unmuted: Option<Uid>,
     fault: &AgentFault,
 ) -> Result<(), AllocError>
-    ensures { OnOk result (text.new.items ≡ text.old.items ++ reason_text budget fault.now) }
+    ensures { OnOk result (text.new.items ≡ text.old.items ++ reason_text budget unmuted fault.now) }
 {
     match fault {
-        AgentFault::Corrupt(_) => write(
-            text,
-            " (it alone was asked, and the answers weren't a new device's)",
-        ),
+        AgentFault::Corrupt(uid) => write(text, corrupt_text(is_this(unmuted, *uid))),
         AgentFault::TooMany => write(text, " (more than 1,024 devices answered)"),
         AgentFault::Exhausted => write_spent(text, budget),
         AgentFault::LineFailed => write(text, " (the line failed)"),
         AgentFault::Aborted => write(text, " (it was aborted)"),
+    }
+}
+
+// Why a UID ended the run. The flag says that it answered alone, and then acknowledged no mute.
+fn corrupt_text(unmuted: bool) -> &'static str
+    ensures { result.now ≡ corrupt_text unmuted }
+{
+    if unmuted {
+        " (it answered alone and then acknowledged no mute)"
+    } else {
+        " (it alone was asked, and the answers weren't a new device's)"
+    }
+}
+
+fn is_this(one: Option<Uid>, uid: Uid) -> bool
+    ensures { result ≡ is_this one uid }
+{
+    match one {
+        Some(one) => one == uid,
+        None => false,
     }
 }
 
@@ -365,7 +396,7 @@ fn sound_text(kind: Option<Kind>, names: &Option<KnownFinding>) -> &'static str
             if is_known_complete(names) {
                 "; no other device is on the line if all follow the rules"
             } else {
-                "; no other device is on the line if all follow the rules, but the run isn't regular: discover again"
+                IRREGULAR
             }
         }
         None => match kind {
@@ -378,6 +409,10 @@ fn sound_text(kind: Option<Kind>, names: &Option<KnownFinding>) -> &'static str
         },
     }
 }
+
+const IRREGULAR: &str =
+    "; no other device is on the line if all follow the rules, but the run isn't regular: \
+    discover again, and suspect the controller or its log if the next one isn't either";
 
 // A certificate of which a part fails.
 fn gap_text(decided: bool) -> &'static str
