@@ -1,6 +1,6 @@
-use Rattle.rdm_findings.proofs.TextLemmas.{two_written}
+use Rattle.rdm_reports.proofs.WritingLemmas.{three_written}
 use Rattle.rdm_findings.proofs.garbled_text.write_both.Goals as goal
 
 pub returns : goal.returns
-returns c = two_written c.write_turns.result c.args.text.now.items c.write_read.new.text.items
-    c.write_turns.new.text.items _ _ c.in_ok-write_read.ensures c.write_turns.ensures
+returns c = three_written c.write_blame.result c.args.text.now.items c.write.new.text.items c.write_uid.new.text.items
+    c.write_blame.new.text.items _ _ _ c.in_ok-write.ensures c.in_ok-write_uid.ensures c.write_blame.ensures

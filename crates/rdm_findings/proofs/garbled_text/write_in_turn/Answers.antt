@@ -1,0 +1,6 @@
+use Rattle.rdm_findings.proofs.TextLemmas.{two_written}
+use Rattle.rdm_findings.proofs.garbled_text.write_in_turn.Goals as goal
+
+pub returns : goal.returns
+returns c = two_written c.write_then.result c.args.text.now.items c.write_off.new.text.items
+    c.write_then.new.text.items _ _ c.in_ok-write_off.ensures c.write_then.ensures

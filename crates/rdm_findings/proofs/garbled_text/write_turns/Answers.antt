@@ -1,6 +1,0 @@
-use Rattle.rdm_reports.proofs.WritingLemmas.{three_written}
-use Rattle.rdm_findings.proofs.garbled_text.write_turns.Goals as goal
-
-pub returns : goal.returns
-returns c = three_written c.write_then.result c.args.text.now.items c.write_uid.new.text.items c.write.new.text.items
-    c.write_then.new.text.items _ _ _ c.in_ok-write_uid.ensures c.in_ok-write.ensures c.write_then.ensures
