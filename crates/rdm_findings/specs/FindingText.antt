@@ -190,7 +190,8 @@ outcome_text budget unmuted ending devices missing =
 abbrev pub head_text : RunHead → (unmuted : Option ℕ) → Option (Option AgentFault) → (exchanges devices missing : ℕ)
     → List ℕ
 head_text head unmuted ending exchanges devices missing =
-    what_text head ++ count_text exchanges (codes " exchange") ++ outcome_text head.budget unmuted ending devices missing
+    what_text head ++ count_text exchanges (codes " exchange")
+    ++ outcome_text head.budget unmuted ending devices missing
 
 -- whether gaps of the certificate are those of the run, and not only of its log: no exchange came after these, or none
 -- could mend them
