@@ -1,6 +1,6 @@
 -- What is printed for a run: the findings about exactly its exchanges.
 use Rattle.std.specs.Prelude.{◌≡◌, ℕ, Bool, ◌&&◌, ◌||◌, not, List, [], ◌∷◌, ◌++◌, Option, Some, None, flat_map, filter}
-use Rattle.std.specs.Prelude.{false, is_none, is_some, if◌then◌else◌, fold, length, nat_le, take, ◌==◌}
+use Rattle.std.specs.Prelude.{false, is_none, is_some, if◌then◌else◌, fold, length, nat_le, take, ◌-◌, ◌==◌}
 use Rattle.std.specs.List.{list_any, position}
 use Rattle.rdm_wire.specs.Uid.{has, is_broadcast}
 use Rattle.rdm_wire.specs.Devices.{uids_of}
@@ -199,10 +199,15 @@ bad_answers u xs = length (filter (is_bad_answer u) xs)
 abbrev pub is_stubborn : Option ℕ → List Exchange → ℕ → Bool
 is_stubborn failure xs u = nat_le TRIES (bad_answers u (before_failure failure xs))
 
--- the device's UID at which a run ended, if it is another than u
-abbrev pub other_end : Option (Option AgentFault) → ℕ → Option ℕ
-other_end (Some (Some (Corrupt v))) u = if (v == u) || is_broadcast v then None else Some v
-other_end _ u = None
+-- Whether a device with the UID v, at which a run ended, may rather be to blame than u: u had at most one more bad
+-- answer. The last one of v may be its own text, which isn't counted
+abbrev pub is_likelier : List Exchange → (v u : ℕ) → Bool
+is_likelier xs v u = not ((v == u) || is_broadcast v) && nat_le (bad_answers u xs - 1) (bad_answers v xs)
+
+-- the UID at which a run ended, if its device may rather be to blame than u
+abbrev pub other_end : List Exchange → Option (Option AgentFault) → ℕ → Option ℕ
+other_end xs (Some (Some (Corrupt v))) u = if is_likelier xs v u then Some v else None
+other_end xs _ u = None
 
 -- who may be to blame beside noise
 abbrev pub unclear_cause : (found : Bool) → Option ℕ → Cause
@@ -218,21 +223,31 @@ calm_cause f u = if any_about u f.gone.items then causes.Gone else causes.Noise 
 abbrev pub device_cause : RunHead → List Exchange → Findings → ℕ → Cause
 device_cause head xs f u =
     if is_stubborn f.certificate.failure xs u then causes.Device (in_uids f.acked u)
-    else unclear_cause (in_uids f.acked u) (other_end (end_of head f.reported xs f.certificate) u)
+    else unclear_cause (in_uids f.acked u) (other_end xs (end_of head f.reported xs f.certificate) u)
 
--- Who is to blame for bytes after u was asked, in a run that may be so. No device should have a UID that isn't listed,
--- doesn't come or leave, and isn't one of those that answered alone and then acknowledged no mute
+-- whether no device should have u: it isn't listed, doesn't come or leave, isn't one of those that answered alone and
+-- then acknowledged no mute, and its text wasn't read
+abbrev pub is_nobody : Findings → ℕ → Bool
+is_nobody f u = not (has f.due.items u || in_uids f.heard u)
+
+-- who is to blame for bytes after u was asked, if it acknowledged no mute
+abbrev pub unfound_cause : RunHead → List Exchange → Findings → ℕ → Cause
+unfound_cause head xs f u =
+    if is_calm head xs f && is_nobody f u then calm_cause f u else device_cause head xs f u
+
+-- the same, whether it did or not
 abbrev pub cause_at : RunHead → List Exchange → Findings → ℕ → Cause
 cause_at head xs f u =
-    if is_calm head xs f && not (has f.due.items u) then calm_cause f u else device_cause head xs f u
+    if is_calm head xs f && in_uids f.acked u then causes.Found else unfound_cause head xs f u
 
--- the same of bytes that a line names
+-- the same of bytes that a line names, if there are any
 abbrev pub cause_by : RunHead → List Exchange → Findings → Option Mention → Cause
 cause_by head xs f None = causes.Unclear false
 cause_by head xs f (Some m) = cause_at head xs f m.uid
 
 -- Who is probably to blame for the first bytes that no honest line allows. A device would have been found, or would
--- have sent such bytes again, and noise seldom comes so often after one UID
+-- have sent such bytes again, and noise seldom comes so often after one UID. The one at which the run ended kept it from
+-- going on
 abbrev pub cause_of : RunHead → List Exchange → Findings → Cause
 cause_of head xs f = cause_by head xs f (garbled_mention head.start head.flaw xs f.garbled)
 

@@ -125,8 +125,8 @@ end_text budget unmuted (Some (Some fault)) = codes ", " ++ early_text fault ++ 
 abbrev pub sound_text : Option Kind → Option KnownFinding → List ℕ
 sound_text kind (Some names) =
     if is_known_complete names then codes "; no other device is on the line if all follow the rules"
-    else codes "; no other device is on the line if all follow the rules, but the run isn't regular: discover again, "
-    ++ codes "and suspect the controller or its log if the next one isn't either"
+    else codes "; no other device is on the line if all follow the rules, but the run isn't regular: discover again; "
+    ++ codes "if this comes again, suspect the controller or its log"
 sound_text None None =
     codes "; no other device is on the line if all follow the rules; the log doesn't have the run's kind"
 sound_text (Some kind) None =
@@ -394,23 +394,25 @@ unless_garbled None stray = stray
 unless_garbled (Some garbled) None = None
 unless_garbled (Some garbled) (Some s) = if s.at == garbled.at then None else Some s
 
--- Why noise is probably to blame after u was asked, before its UID. The flag says that devices are listed beside those
--- that were found
+-- Why noise is probably to blame after u was asked, before its UID. The flag says that devices are listed by --present or
+-- the rig
 abbrev pub nobody_before : (expects : Bool) → ℕ → List ℕ
 nobody_before expects u =
-    if is_broadcast u then codes "no device may have " else (if expects then [] else codes "no device with ")
+    if is_broadcast u then codes ": no device may have "
+    else (if expects then codes ": " else codes " if your rig has no ")
 
 -- and after it
 abbrev pub nobody_after : (expects : Bool) → ℕ → List ℕ
 nobody_after expects u =
     if is_broadcast u then []
-    else (if expects then codes " isn't listed, and all listed devices were found" else codes " was found")
+    else (if expects then codes " isn't listed, and all listed devices were found"
+    else codes "; if it has, name it by --present")
 
 -- both
 abbrev pub nobody_text : (expects : Bool) → ℕ → List ℕ
 nobody_text expects u = nobody_before expects u ++ uid_text u ++ nobody_after expects u
 
--- what to do with the device of a UID. A device that was found has it
+-- what to do with the device of a UID; without the flag, also what to do if no device has it
 abbrev pub after_take : (found : Bool) → List ℕ
 after_take found =
     if found then codes " off the line and discover again"
@@ -427,30 +429,37 @@ abbrev pub who_text : Cause → List ℕ
 who_text (causes.Device found) = codes "; a rule was broken, by a device rather than noise: "
 who_text _ = codes "; a rule was broken, by a device or noise: "
 
+-- which device to take off the line next
+abbrev pub then_text : ℕ → List ℕ
+then_text u = if is_broadcast u then [] else codes "; then " ++ uid_text u
+
 -- what to do first, if a run ended at v
-abbrev pub first_off : ℕ → List ℕ
-first_off v = codes "first take " ++ uid_text v ++ codes ", at which the run ended, off the line and discover again"
+abbrev pub end_off : ℕ → List ℕ
+end_off v = codes "first take " ++ uid_text v ++ codes ", at which the run ended, off the line and discover again"
+
+-- and then about u
+abbrev pub first_off : (v u : ℕ) → List ℕ
+first_off v u = end_off v ++ then_text u
 
 -- what is probably to blame for bytes that no honest line allows, whichever devices are on it, after u was asked, and
 -- what to do
 abbrev pub cause_text : Cause → ℕ → List ℕ
 cause_text (causes.Noise expects) u =
-    codes "; a rule was broken, probably by noise: " ++ nobody_text expects u
+    codes "; a rule was broken, probably by noise" ++ nobody_text expects u
     ++ codes "; if it happens again, check the cable and its terminator"
+cause_text causes.Found u =
+    codes "; a rule was broken, probably by noise: " ++ uid_text u
+    ++ codes " was found all the same; if it happens again, take it off the line and discover again"
 cause_text causes.Gone u =
     codes "; a rule was broken, probably by noise if you took " ++ uid_text u
-    ++ codes " away; if it is still there, take it off the line and discover again"
+    ++ codes " away; if it is still there, check its power and its cable"
 cause_text (causes.Device found) u = who_text (causes.Device found) ++ off_text found u
 cause_text (causes.Unclear found) u = who_text (causes.Unclear found) ++ off_text found u
-cause_text (causes.Other v) u = who_text (causes.Other v) ++ first_off v
-
--- which device to take off the line next
-abbrev pub then_text : ℕ → List ℕ
-then_text u = if is_broadcast u then [] else codes "; then " ++ uid_text u
+cause_text (causes.Other v) u = who_text (causes.Other v) ++ first_off v u
 
 -- what to do after a branch of u alone that reads as v
 abbrev pub turns_text : Cause → (u v : ℕ) → List ℕ
-turns_text (causes.Other w) u v = first_off w
+turns_text (causes.Other w) u v = first_off w u
 turns_text _ u v = off_text true v ++ then_text u
 
 -- The same after a branch of u alone, if the bytes are the text of v. Device v may have sent its own UID; but u or

@@ -1,6 +1,6 @@
 //! Who is probably to blame for bytes that no honest line allows.
 ghost use Rattle.std.specs.Prelude.{◌≡◌};
-ghost use Rattle.rdm_findings.specs.Explained.{bad_answers, is_bad_answer, is_stubborn, other_end, unclear_cause};
+ghost use Rattle.rdm_findings.specs.Explained.{bad_answers, is_bad_answer, is_likelier, is_stubborn, other_end, unclear_cause};
 
 use crate::ending::is_garbled_mute;
 use crate::listing::before_failure;
@@ -12,8 +12,10 @@ use rdm_wire::Uid;
 /// Who is probably to blame for bytes that no honest line allows.
 #[derive(Clone, Copy)]
 pub(crate) enum Cause {
-    /// Noise. The flag says that devices are listed beside those that were found.
+    /// Noise. The flag says that devices are listed by `--present` or the rig.
     Noise(bool),
+    /// Noise: the device that was asked was found.
+    Found,
     /// Noise, unless a known device is still there.
     Gone,
     /// The device that was asked. The flag says that it was found.
@@ -34,20 +36,31 @@ pub(crate) fn unclear_cause(found: bool, other: Option<Uid>) -> Cause
     }
 }
 
-/// The device's UID at which a run ended, if it is another one.
-pub(crate) fn other_end(ending: Option<Option<AgentFault>>, uid: Uid) -> Option<Uid>
-    ensures { result ≡ other_end ending uid }
+/// The UID at which a run ended, if its device may rather be to blame than another one.
+pub(crate) fn other_end(
+    exchanges: &[Exchange],
+    ending: Option<Option<AgentFault>>,
+    uid: Uid,
+) -> Option<Uid>
+    ensures { result ≡ other_end exchanges.now ending uid }
 {
     match ending {
         Some(Some(AgentFault::Corrupt(end))) => {
-            if end == uid || end.is_broadcast() {
-                None
-            } else {
+            if is_likelier(exchanges, end, uid) {
                 Some(end)
+            } else {
+                None
             }
         }
         _ => None,
     }
+}
+
+fn is_likelier(exchanges: &[Exchange], end: Uid, uid: Uid) -> bool
+    ensures { result ≡ is_likelier exchanges.now end uid }
+{
+    !(end == uid || end.is_broadcast())
+        && bad_answers(uid, exchanges).saturating_sub(1) <= bad_answers(end, exchanges)
 }
 
 /// Whether a UID had as many bad answers as a mute is tried, before an exchange failed.

@@ -9,7 +9,7 @@ ghost use Rattle.rdm_findings.specs.Explained.{findings_text, IsExplained, shows
 ghost use Rattle.rdm_findings.specs.Explained.{devices_text, others_text, bytes_text, run_text};
 ghost use Rattle.rdm_findings.specs.Explained.{missing_of, missing_in};
 ghost use Rattle.rdm_findings.specs.Explained.{any_about, cause_at, cause_by, cause_of, is_calm, is_only};
-ghost use Rattle.rdm_findings.specs.Explained.{calm_cause, device_cause};
+ghost use Rattle.rdm_findings.specs.Explained.{calm_cause, device_cause, is_nobody, unfound_cause};
 ghost use Rattle.rdm_findings.specs.RunJson.{before_run, run_end};
 
 use crate::cause::{Cause, is_stubborn, other_end, unclear_cause};
@@ -68,7 +68,7 @@ struct Findings {
     misreads: Misreads,
     heard: RunUids,
     acked: RunUids,
-    // Whether devices are listed beside the reported ones.
+    // Whether devices are listed by `--present` or the rig.
     expects: bool,
 }
 
@@ -395,11 +395,29 @@ fn cause_by(
 fn cause_at(head: &RunHead, exchanges: &[Exchange], found: &Findings, uid: Uid) -> Cause
     ensures { result ≡ cause_at head.now exchanges.now found.now uid }
 {
-    if is_calm(head, exchanges, found) && !has(&found.due, uid) {
+    if is_calm(head, exchanges, found) && found.acked.contains(uid) {
+        Cause::Found
+    } else {
+        unfound_cause(head, exchanges, found, uid)
+    }
+}
+
+// The same, if it acknowledged no mute.
+fn unfound_cause(head: &RunHead, exchanges: &[Exchange], found: &Findings, uid: Uid) -> Cause
+    ensures { result ≡ unfound_cause head.now exchanges.now found.now uid }
+{
+    if is_calm(head, exchanges, found) && is_nobody(found, uid) {
         calm_cause(found, uid)
     } else {
         device_cause(head, exchanges, found, uid)
     }
+}
+
+// Whether no device should have a UID.
+fn is_nobody(found: &Findings, uid: Uid) -> bool
+    ensures { result ≡ is_nobody found.now uid }
+{
+    !(has(&found.due, uid) || found.heard.contains(uid))
 }
 
 // Noise; but a known device may have the UID, if it wasn't taken away.
@@ -422,7 +440,7 @@ fn device_cause(head: &RunHead, exchanges: &[Exchange], found: &Findings, uid: U
         return Cause::Device(acked);
     }
     let ending = end_of(head, &found.reported, exchanges, &found.certificate);
-    unclear_cause(acked, other_end(ending, uid))
+    unclear_cause(acked, other_end(exchanges, ending, uid))
 }
 
 // Whether a run found all devices, and one exchange alone has bytes that no honest line allows, which noise may have

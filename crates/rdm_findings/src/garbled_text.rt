@@ -3,7 +3,7 @@ ghost use Rattle.std.specs.Prelude.{◌≡◌, ◌++◌, OnOk, codes, true};
 ghost use Rattle.rdm_wire.specs.UidText.{uid_text};
 ghost use Rattle.rdm_findings.specs.FindingText.{sighting_name, cause_text, reply_text, garbled_text};
 ghost use Rattle.rdm_findings.specs.FindingText.{nobody_before, nobody_after, nobody_text, after_take, off_text};
-ghost use Rattle.rdm_findings.specs.FindingText.{who_text, first_off, turns_text};
+ghost use Rattle.rdm_findings.specs.FindingText.{who_text, first_off, end_off, turns_text};
 ghost use Rattle.rdm_findings.specs.FindingText.{same_why, off_advice, same_text, own_text, other_bytes};
 ghost use Rattle.rdm_findings.specs.FindingText.{both_text, then_text, why_text, unacked_text, wrong_text};
 ghost use Rattle.rdm_findings.specs.FindingText.{garbled_found, garbled_finding, asked_uid, of_garbled};
@@ -256,19 +256,20 @@ fn write_cause(text: &mut Vec<u8>, cause: Cause, uid: Uid) -> Result<(), AllocEr
 {
     match cause {
         Cause::Noise(expects) => write_noise(text, expects, uid),
+        Cause::Found => write_found_one(text, uid),
         Cause::Gone => write_gone(text, uid),
         Cause::Device(found) => write_device(text, found, uid),
         Cause::Unclear(found) => write_unclear(text, found, uid),
-        Cause::Other(end) => write_other(text, end),
+        Cause::Other(end) => write_other(text, end, uid),
     }
 }
 
 fn write_noise(text: &mut Vec<u8>, expects: bool, uid: Uid) -> Result<(), AllocError>
     ensures { OnOk result (text.new.items ≡ text.old.items
-        ++ (codes "; a rule was broken, probably by noise: " ++ nobody_text expects uid
+        ++ (codes "; a rule was broken, probably by noise" ++ nobody_text expects uid
         ++ codes "; if it happens again, check the cable and its terminator")) }
 {
-    write(text, "; a rule was broken, probably by noise: ")?;
+    write(text, "; a rule was broken, probably by noise")?;
     write_nobody(text, expects, uid)?;
     write(
         text,
@@ -289,11 +290,11 @@ fn nobody_before(expects: bool, uid: Uid) -> &'static str
     ensures { result.now ≡ nobody_before expects uid }
 {
     if uid.is_broadcast() {
-        "no device may have "
+        ": no device may have "
     } else if expects {
-        ""
+        ": "
     } else {
-        "no device with "
+        " if your rig has no "
     }
 }
 
@@ -305,20 +306,33 @@ fn nobody_after(expects: bool, uid: Uid) -> &'static str
     } else if expects {
         " isn't listed, and all listed devices were found"
     } else {
-        " was found"
+        "; if it has, name it by --present"
     }
+}
+
+fn write_found_one(text: &mut Vec<u8>, uid: Uid) -> Result<(), AllocError>
+    ensures { OnOk result (text.new.items ≡ text.old.items
+        ++ (codes "; a rule was broken, probably by noise: " ++ uid_text uid
+        ++ codes " was found all the same; if it happens again, take it off the line and discover again")) }
+{
+    write(text, "; a rule was broken, probably by noise: ")?;
+    write_uid(text, uid)?;
+    write(
+        text,
+        " was found all the same; if it happens again, take it off the line and discover again",
+    )
 }
 
 fn write_gone(text: &mut Vec<u8>, uid: Uid) -> Result<(), AllocError>
     ensures { OnOk result (text.new.items ≡ text.old.items
         ++ (codes "; a rule was broken, probably by noise if you took " ++ uid_text uid
-        ++ codes " away; if it is still there, take it off the line and discover again")) }
+        ++ codes " away; if it is still there, check its power and its cable")) }
 {
     write(text, "; a rule was broken, probably by noise if you took ")?;
     write_uid(text, uid)?;
     write(
         text,
-        " away; if it is still there, take it off the line and discover again",
+        " away; if it is still there, check its power and its cable",
     )
 }
 
@@ -338,17 +352,24 @@ fn write_unclear(text: &mut Vec<u8>, found: bool, uid: Uid) -> Result<(), AllocE
     write_off(text, found, uid)
 }
 
-fn write_other(text: &mut Vec<u8>, end: Uid) -> Result<(), AllocError>
+fn write_other(text: &mut Vec<u8>, end: Uid, uid: Uid) -> Result<(), AllocError>
     ensures { OnOk result (text.new.items ≡ text.old.items
-        ++ (codes "; a rule was broken, by a device or noise: " ++ first_off end)) }
+        ++ (codes "; a rule was broken, by a device or noise: " ++ first_off end uid)) }
 {
     write(text, "; a rule was broken, by a device or noise: ")?;
-    write_first_off(text, end)
+    write_first_off(text, end, uid)
 }
 
-// What to do first, if the run ended at this UID.
-fn write_first_off(text: &mut Vec<u8>, end: Uid) -> Result<(), AllocError>
-    ensures { OnOk result (text.new.items ≡ text.old.items ++ first_off end) }
+// What to do first, if the run ended at a UID, and then about another one.
+fn write_first_off(text: &mut Vec<u8>, end: Uid, uid: Uid) -> Result<(), AllocError>
+    ensures { OnOk result (text.new.items ≡ text.old.items ++ first_off end uid) }
+{
+    write_end_off(text, end)?;
+    write_then(text, uid)
+}
+
+fn write_end_off(text: &mut Vec<u8>, end: Uid) -> Result<(), AllocError>
+    ensures { OnOk result (text.new.items ≡ text.old.items ++ end_off end) }
 {
     write(text, "first take ")?;
     write_uid(text, end)?;
@@ -434,7 +455,7 @@ fn write_turns(text: &mut Vec<u8>, cause: Cause, uid: Uid, read: Uid) -> Result<
     ensures { OnOk result (text.new.items ≡ text.old.items ++ turns_text cause uid read) }
 {
     match cause {
-        Cause::Other(end) => write_first_off(text, end),
+        Cause::Other(end) => write_first_off(text, end, uid),
         _ => write_in_turn(text, uid, read),
     }
 }

@@ -412,7 +412,7 @@ fn sound_text(kind: Option<Kind>, names: &Option<KnownFinding>) -> &'static str
 
 const IRREGULAR: &str =
     "; no other device is on the line if all follow the rules, but the run isn't regular: \
-    discover again, and suspect the controller or its log if the next one isn't either";
+    discover again; if this comes again, suspect the controller or its log";
 
 // A certificate of which a part fails.
 fn gap_text(decided: bool) -> &'static str
