@@ -246,8 +246,8 @@ cause_by head xs f None = causes.Unclear false
 cause_by head xs f (Some m) = cause_at head xs f m.uid
 
 -- Who is probably to blame for the first bytes that no honest line allows. A device would have been found, or would
--- have sent such bytes again, and noise seldom comes so often after one UID. The one at which the run ended kept it from
--- going on
+-- have sent such bytes again, and noise seldom comes so often after one UID. The one at which the run ended kept it
+-- from going on
 abbrev pub cause_of : RunHead → List Exchange → Findings → Cause
 cause_of head xs f = cause_by head xs f (garbled_mention head.start head.flaw xs f.garbled)
 

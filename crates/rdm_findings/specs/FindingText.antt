@@ -394,8 +394,8 @@ unless_garbled None stray = stray
 unless_garbled (Some garbled) None = None
 unless_garbled (Some garbled) (Some s) = if s.at == garbled.at then None else Some s
 
--- Why noise is probably to blame after u was asked, before its UID. The flag says that devices are listed by --present or
--- the rig
+-- Why noise is probably to blame after u was asked, before its UID. The flag says that devices are listed by --present
+-- or the rig
 abbrev pub nobody_before : (expects : Bool) → ℕ → List ℕ
 nobody_before expects u =
     if is_broadcast u then codes ": no device may have "

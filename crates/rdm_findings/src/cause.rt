@@ -1,6 +1,7 @@
 //! Who is probably to blame for bytes that no honest line allows.
 ghost use Rattle.std.specs.Prelude.{◌≡◌};
-ghost use Rattle.rdm_findings.specs.Explained.{bad_answers, is_bad_answer, is_likelier, is_stubborn, other_end, unclear_cause};
+ghost use Rattle.rdm_findings.specs.Explained.{bad_answers, is_bad_answer, is_likelier, is_stubborn, other_end};
+ghost use Rattle.rdm_findings.specs.Explained.{unclear_cause};
 
 use crate::ending::is_garbled_mute;
 use crate::listing::before_failure;
