@@ -109,7 +109,7 @@ AFTER_MUTE = MISREAD.format(
     "1234:00000008 alone was asked, and bytes came that are no right answer: take it off the line and discover again"
     f"{NO_DEVICE} (exchange 4)\n"
     "exchange 3 (and 1 more): bytes came after a mute of 1234:00000001 that don't acknowledge it: "
-    "they are too short for a response; ", "1234:00000008", "").replace(
+    "they are too short for a response; ", "1234:00000008", "; then 1234:00000001").replace(
         "noise: take 1234:00000008 off", "noise: first take 1234:00000008, at which the run ended, off")
 AFTER_TEXT = MISREAD.format(
     5, "", "exchange 3 (and 1 more): 1234:00000008 alone was asked, and bytes came that are no right answer; "
@@ -224,7 +224,7 @@ not settled: a device from 0000:00000000 up may be missing
 if your rig has no such device, split the line (exchange 4)
 exchange 3 (and 8 more): 1234:00000008 alone was asked, and bytes came that are no right answer; \
 they read as 1234:00000001; a rule was broken, by a device or noise: \
-first take 1234:00000009, at which the run ended, off the line and discover again
+first take 1234:00000009, at which the run ended, off the line and discover again; then 1234:00000008
 status 3
 
 five bad answers, and then the UID with which a run ends
@@ -262,8 +262,70 @@ steady full
 discovery: full, steady, 11 exchanges, 1 device; no other device is on the line if all follow the rules
 1234:00000009 was found, and followed the rules
 exchange 10: 1234:00000008 alone was asked, and bytes came that are no right answer: \
-they don't begin like a discovery reply; a rule was broken, probably by noise: \
-no device with 1234:00000008 was found; if it happens again, check the cable and its terminator
+they don't begin like a discovery reply; a rule was broken, probably by noise if your rig has no 1234:00000008; \
+if it has, name it by --present; if it happens again, check the cable and its terminator
+status 3
+
+the same of a UID whose text was read
+steady full
+3 unmute; all > spare; mute spare > noise; 4 mute spare; all > liar; mute liar > ack; 5 all
+discovery: full, steady, 15 exchanges, 1 device; no other device is on the line if all follow the rules
+1234:00000009 was found, and followed the rules
+exchange 4: bytes came after a mute of 1234:00000008 that don't acknowledge it: \
+they are too short for a response; a rule was broken, by a device or noise: \
+take 1234:00000008 off the line and discover again; if your rig has no such device, split the line
+status 3
+
+noise after a mute of a device that is found
+steady full
+3 unmute; all > liar; mute liar > noise; mute liar > ack; 5 all
+discovery: full, steady, 11 exchanges, 1 device; no other device is on the line if all follow the rules
+1234:00000009 was found, but didn't acknowledge a mute \
+(exchange 4 has other bytes: a rule was broken, by it, another device or noise)
+exchange 4: bytes came after a mute of 1234:00000009 that don't acknowledge it: \
+they are too short for a response; a rule was broken, probably by noise: \
+1234:00000009 was found all the same; if it happens again, take it off the line and discover again
+status 3
+
+the same twice
+steady full
+3 unmute; all > liar; 2 mute liar > noise; mute liar > ack; 5 all
+discovery: full, steady, 12 exchanges, 1 device; no other device is on the line if all follow the rules
+1234:00000009 was found, but didn't acknowledge a mute \
+(exchange 4 has other bytes: a rule was broken, by it, another device or noise)
+exchange 4 (and 1 more): bytes came after a mute of 1234:00000009 that don't acknowledge it: \
+they are too short for a response; a rule was broken, by a device or noise: \
+take 1234:00000009 off the line and discover again
+status 3
+
+four bad answers, and then one of the UID with which a run ends
+steady full
+3 unmute; all > found; 4 mute found > noise; mute found; alone liar > noise
+discovery: full, steady, 10 exchanges, ended early at 1234:00000009 (it alone was asked, and the answers weren't a new \
+device's), 0 devices; others may be on the line
+not settled: a device from 0000:00000000 up may be missing
+1234:00000009 alone was asked, and bytes came that are no right answer: take it off the line and discover again; \
+if your rig has no such device, split the line (exchange 9)
+exchange 3 (and 5 more): the UIDs from 0000:00000000 to ffff:ffffffff were asked, and bytes came though no listed \
+device was due; they read as 1234:00000001, which isn't listed: name it by --present, if your rig has it
+exchange 4 (and 4 more): bytes came after a mute of 1234:00000001 that don't acknowledge it: \
+they are too short for a response; a rule was broken, by a device or noise: \
+take 1234:00000001 off the line and discover again; if your rig has no such device, split the line
+status 3
+
+a bad answer, and then a UID that ends a run by ignoring mutes
+steady full
+3 unmute; all > found; mute found > noise; mute found > ack; alone liar > liar; 5 mute liar
+discovery: full, steady, 12 exchanges, ended early at 1234:00000009 (it answered alone and then acknowledged no mute), \
+1 device; others may be on the line
+not settled: a device from 0000:00000000 up may be missing
+1234:00000001 was found, but didn't acknowledge a mute \
+(exchange 4 has other bytes: a rule was broken, by it, another device or noise)
+1234:00000009 answered alone and then acknowledged no mute: it left, or broke a rule; \
+take it off the line and discover again
+exchange 4: bytes came after a mute of 1234:00000001 that don't acknowledge it: \
+they are too short for a response; a rule was broken, by a device or noise: \
+first take 1234:00000009, at which the run ended, off the line and discover again; then 1234:00000001
 status 3
 
 noise after a mute of a known UID, in a run that found all devices
@@ -274,7 +336,7 @@ discovery: incremental, steady, 15 exchanges, 1 device; no other device is on th
 1234:00000008 was known, and bytes came that don't acknowledge its mute: exchange 3
 exchange 3: bytes came after a mute of 1234:00000008 that don't acknowledge it: \
 they are too short for a response; a rule was broken, probably by noise if you took 1234:00000008 away; \
-if it is still there, take it off the line and discover again
+if it is still there, check its power and its cable
 status 3
 """
 

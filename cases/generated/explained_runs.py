@@ -398,8 +398,8 @@ a mute of a UID that is neither known nor read
 incremental 1234:00000001
 3 unmute; mute found; mute found > bound; 5 mute absent; all > new; mute new > bound; 5 all
 discovery: incremental, steady, 17 exchanges, 2 devices; \
-no other device is on the line if all follow the rules, but the run isn't regular: discover again, \
-and suspect the controller or its log if the next one isn't either
+no other device is on the line if all follow the rules, but the run isn't regular: discover again; \
+if this comes again, suspect the controller or its log
 exchange 5 mutes a UID that no earlier branch had read
 1234:00000001 was found, and followed the rules
 9abc:00000002 was found, and followed the rules
@@ -409,8 +409,8 @@ a known UID that is muted only after a branch
 incremental 1234:00000001 5678:00000009 9abc:00000002
 3 unmute; mute found; mute found > bound; 5 mute absent; all > new; mute new > bound; 5 all
 discovery: incremental, steady, 17 exchanges, 2 devices; \
-no other device is on the line if all follow the rules, but the run isn't regular: discover again, \
-and suspect the controller or its log if the next one isn't either
+no other device is on the line if all follow the rules, but the run isn't regular: discover again; \
+if this comes again, suspect the controller or its log
 9abc:00000002 is known, but wasn't muted before the first branch
 1234:00000001 was found, and followed the rules
 9abc:00000002 was found, and followed the rules
@@ -421,8 +421,8 @@ a full run that mutes known UIDs
 full 1234:00000001 5678:00000009
 3 unmute; mute found; mute found > bound; 5 mute absent; all > new; mute new > bound; 5 all
 discovery: full, steady, 17 exchanges, 2 devices; \
-no other device is on the line if all follow the rules, but the run isn't regular: discover again, \
-and suspect the controller or its log if the next one isn't either
+no other device is on the line if all follow the rules, but the run isn't regular: discover again; \
+if this comes again, suspect the controller or its log
 exchange 3 mutes a UID that no earlier branch had read
 1234:00000001 was found, and followed the rules
 9abc:00000002 was found, and followed the rules
