@@ -269,7 +269,7 @@ status 3
 the same of a UID whose text was read
 steady full
 3 unmute; all > spare; mute spare > noise; 4 mute spare; all > liar; mute liar > ack; 5 all
-discovery: full, steady, 15 exchanges, 1 device; no other device is on the line if all follow the rules
+discovery: full, steady, 16 exchanges, 1 device; no other device is on the line if all follow the rules
 1234:00000009 was found, and followed the rules
 exchange 4: bytes came after a mute of 1234:00000008 that don't acknowledge it: \
 they are too short for a response; a rule was broken, by a device or noise: \

@@ -431,19 +431,19 @@ fn write_both(text: &mut Vec<u8>, cause: Cause, uid: Uid, read: Uid) -> Result<(
 {
     write(text, "; they read as ")?;
     write_uid(text, read)?;
-    write_blame(text, cause, uid, read)
+    write_blame(text, &cause, uid, read)
 }
 
-fn write_blame(text: &mut Vec<u8>, cause: Cause, uid: Uid, read: Uid) -> Result<(), AllocError>
-    ensures { OnOk result (text.new.items ≡ text.old.items ++ (who_text cause ++ turns_text cause uid read)) }
+fn write_blame(text: &mut Vec<u8>, cause: &Cause, uid: Uid, read: Uid) -> Result<(), AllocError>
+    ensures { OnOk result (text.new.items ≡ text.old.items ++ (who_text cause.now ++ turns_text cause.now uid read)) }
 {
     write(text, who_text(cause))?;
     write_turns(text, cause, uid, read)
 }
 
 // Whether a device or noise broke a rule.
-fn who_text(cause: Cause) -> &'static str
-    ensures { result.now ≡ who_text cause }
+fn who_text(cause: &Cause) -> &'static str
+    ensures { result.now ≡ who_text cause.now }
 {
     match cause {
         Cause::Device(_) => "; a rule was broken, by a device rather than noise: ",
@@ -451,11 +451,11 @@ fn who_text(cause: Cause) -> &'static str
     }
 }
 
-fn write_turns(text: &mut Vec<u8>, cause: Cause, uid: Uid, read: Uid) -> Result<(), AllocError>
-    ensures { OnOk result (text.new.items ≡ text.old.items ++ turns_text cause uid read) }
+fn write_turns(text: &mut Vec<u8>, cause: &Cause, uid: Uid, read: Uid) -> Result<(), AllocError>
+    ensures { OnOk result (text.new.items ≡ text.old.items ++ turns_text cause.now uid read) }
 {
     match cause {
-        Cause::Other(end) => write_first_off(text, end, uid),
+        Cause::Other(end) => write_first_off(text, *end, uid),
         _ => write_in_turn(text, uid, read),
     }
 }
