@@ -3,7 +3,7 @@ ghost use Rattle.std.specs.Prelude.{◌≡◌, ◌++◌, OnOk, codes, true};
 ghost use Rattle.rdm_wire.specs.UidText.{uid_text};
 ghost use Rattle.rdm_findings.specs.FindingText.{sighting_name, cause_text, reply_text, garbled_text};
 ghost use Rattle.rdm_findings.specs.FindingText.{nobody_before, nobody_after, nobody_text, after_take, off_text};
-ghost use Rattle.rdm_findings.specs.FindingText.{who_text, first_off, end_off, turns_text};
+ghost use Rattle.rdm_findings.specs.FindingText.{who_text, first_off, turns_text};
 ghost use Rattle.rdm_findings.specs.FindingText.{same_why, off_advice, same_text, own_text, other_bytes};
 ghost use Rattle.rdm_findings.specs.FindingText.{both_text, then_text, why_text, unacked_text, wrong_text};
 ghost use Rattle.rdm_findings.specs.FindingText.{garbled_found, garbled_finding, asked_uid, of_garbled};
@@ -13,7 +13,7 @@ use crate::cause::Cause;
 use crate::flaw::{Flaw, write_flaw};
 use crate::form::{About, Form, Judgement, begin, end};
 use crate::head::RunHead;
-use crate::writing::{write, write_sighting, write_uid};
+use crate::writing::{write, write_around, write_sighting, write_uid};
 use rdm_explain::{Asked, Exchange, Heard, Sighting};
 use rdm_wire::Uid;
 use std::alloc::AllocError;
@@ -256,13 +256,21 @@ fn write_cause(text: &mut Vec<u8>, cause: Cause, uid: Uid) -> Result<(), AllocEr
 {
     match cause {
         Cause::Noise(expects) => write_noise(text, expects, uid),
-        Cause::Found => write_found_one(text, uid),
-        Cause::Gone => write_gone(text, uid),
+        Cause::Found => write_around(text, "; a rule was broken, probably by noise: ", uid, FOUND),
+        Cause::Gone => write_around(
+            text,
+            "; a rule was broken, probably by noise if you took ",
+            uid,
+            " away; if it is still there, check its power and its cable",
+        ),
         Cause::Device(found) => write_device(text, found, uid),
         Cause::Unclear(found) => write_unclear(text, found, uid),
         Cause::Other(end) => write_other(text, end, uid),
     }
 }
+
+const FOUND: &str =
+    " was found all the same; if it happens again, take it off the line and discover again";
 
 fn write_noise(text: &mut Vec<u8>, expects: bool, uid: Uid) -> Result<(), AllocError>
     ensures { OnOk result (text.new.items ≡ text.old.items
@@ -281,9 +289,12 @@ fn write_noise(text: &mut Vec<u8>, expects: bool, uid: Uid) -> Result<(), AllocE
 fn write_nobody(text: &mut Vec<u8>, expects: bool, uid: Uid) -> Result<(), AllocError>
     ensures { OnOk result (text.new.items ≡ text.old.items ++ nobody_text expects uid) }
 {
-    write(text, nobody_before(expects, uid))?;
-    write_uid(text, uid)?;
-    write(text, nobody_after(expects, uid))
+    write_around(
+        text,
+        nobody_before(expects, uid),
+        uid,
+        nobody_after(expects, uid),
+    )
 }
 
 fn nobody_before(expects: bool, uid: Uid) -> &'static str
@@ -308,32 +319,6 @@ fn nobody_after(expects: bool, uid: Uid) -> &'static str
     } else {
         "; if it has, name it by --present"
     }
-}
-
-fn write_found_one(text: &mut Vec<u8>, uid: Uid) -> Result<(), AllocError>
-    ensures { OnOk result (text.new.items ≡ text.old.items
-        ++ (codes "; a rule was broken, probably by noise: " ++ uid_text uid
-        ++ codes " was found all the same; if it happens again, take it off the line and discover again")) }
-{
-    write(text, "; a rule was broken, probably by noise: ")?;
-    write_uid(text, uid)?;
-    write(
-        text,
-        " was found all the same; if it happens again, take it off the line and discover again",
-    )
-}
-
-fn write_gone(text: &mut Vec<u8>, uid: Uid) -> Result<(), AllocError>
-    ensures { OnOk result (text.new.items ≡ text.old.items
-        ++ (codes "; a rule was broken, probably by noise if you took " ++ uid_text uid
-        ++ codes " away; if it is still there, check its power and its cable")) }
-{
-    write(text, "; a rule was broken, probably by noise if you took ")?;
-    write_uid(text, uid)?;
-    write(
-        text,
-        " away; if it is still there, check its power and its cable",
-    )
 }
 
 fn write_device(text: &mut Vec<u8>, found: bool, uid: Uid) -> Result<(), AllocError>
@@ -364,19 +349,13 @@ fn write_other(text: &mut Vec<u8>, end: Uid, uid: Uid) -> Result<(), AllocError>
 fn write_first_off(text: &mut Vec<u8>, end: Uid, uid: Uid) -> Result<(), AllocError>
     ensures { OnOk result (text.new.items ≡ text.old.items ++ first_off end uid) }
 {
-    write_end_off(text, end)?;
-    write_then(text, uid)
-}
-
-fn write_end_off(text: &mut Vec<u8>, end: Uid) -> Result<(), AllocError>
-    ensures { OnOk result (text.new.items ≡ text.old.items ++ end_off end) }
-{
-    write(text, "first take ")?;
-    write_uid(text, end)?;
-    write(
+    write_around(
         text,
+        "first take ",
+        end,
         ", at which the run ended, off the line and discover again",
-    )
+    )?;
+    write_then(text, uid)
 }
 
 // What to do about a UID.
@@ -386,17 +365,8 @@ fn write_off(text: &mut Vec<u8>, found: bool, uid: Uid) -> Result<(), AllocError
     if uid.is_broadcast() {
         write(text, "split the line and discover each half")
     } else {
-        write_take(text, found, uid)
+        write_around(text, "take ", uid, after_take(found))
     }
-}
-
-fn write_take(text: &mut Vec<u8>, found: bool, uid: Uid) -> Result<(), AllocError>
-    ensures { OnOk result (text.new.items ≡ text.old.items
-        ++ (codes "take " ++ uid_text uid ++ after_take found)) }
-{
-    write(text, "take ")?;
-    write_uid(text, uid)?;
-    write(text, after_take(found))
 }
 
 fn after_take(found: bool) -> &'static str

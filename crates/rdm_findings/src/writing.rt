@@ -31,6 +31,20 @@ pub(crate) fn write_uid(text: &mut Vec<u8>, uid: Uid) -> Result<(), AllocError>
     text.extend_from_slice(&uid.to_text())
 }
 
+/// Writes a UID between two texts.
+pub(crate) fn write_around(
+    text: &mut Vec<u8>,
+    before: &str,
+    uid: Uid,
+    after: &str,
+) -> Result<(), AllocError>
+    ensures { OnOk result (text.new.items ≡ text.old.items ++ (before.now ++ uid_text uid ++ after.now)) }
+{
+    write(text, before)?;
+    write_uid(text, uid)?;
+    write(text, after)
+}
+
 /// Writes how many there are of a thing.
 pub(crate) fn write_count(text: &mut Vec<u8>, count: u64, thing: &str) -> Result<(), AllocError>
     ensures { OnOk result (text.new.items ≡ text.old.items ++ count_text count thing.now) }
