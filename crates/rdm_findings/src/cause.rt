@@ -1,5 +1,5 @@
 //! Who is probably to blame for bytes that no honest line allows.
-ghost use Rattle.std.specs.Prelude.{◌≡◌};
+ghost use Rattle.std.specs.Prelude.{◌≡◌, Some};
 ghost use Rattle.rdm_findings.specs.Explained.{bad_answers, is_bad_answer, is_likelier, is_stubborn, other_end};
 ghost use Rattle.rdm_findings.specs.Explained.{unclear_cause};
 
@@ -46,13 +46,17 @@ pub(crate) fn other_end(
     ensures { result ≡ other_end exchanges.now ending uid }
 {
     match ending {
-        Some(Some(AgentFault::Corrupt(end))) => {
-            if is_likelier(exchanges, end, uid) {
-                Some(end)
-            } else {
-                None
-            }
-        }
+        Some(Some(fault)) => corrupt_end(exchanges, &fault, uid),
+        _ => None,
+    }
+}
+
+// The same of a run that ended with this fault.
+fn corrupt_end(exchanges: &[Exchange], fault: &AgentFault, uid: Uid) -> Option<Uid>
+    ensures { result ≡ other_end exchanges.now (Some (Some fault.now)) uid }
+{
+    match fault {
+        AgentFault::Corrupt(end) if is_likelier(exchanges, *end, uid) => Some(*end),
         _ => None,
     }
 }
