@@ -217,10 +217,15 @@ class Fixtures(BrowserTestCase):
             seen.click(f"{row(BACK)} .identify")
             events.until(lambda parts: parts[f"fixture/{BACK}"]["identifies"])
             seen.until(f"document.querySelector(\"{row(BACK)} .identify\").getAttribute('aria-checked') === 'true'")
-            # All of them stop at once, from any view.
+            # Each view names all of them, of which nothing is cut off, and stops them at once.
             seen.click(f"{row(LEFT)} .identify")
-            seen.button("Slots")
-            seen.button("2 identify · Stop")
+            for view in ("File", "Discovery", "Line", "Slots"):
+                seen.button(view)
+                seen.until(f"document.querySelector('main.{view.lower()}') && document.querySelector('#stop')"
+                           "?.textContent === '2 identify: Front left, Back truss Stop'")
+                self.assertEqual(seen.page.value("(({scrollHeight, clientHeight}) => scrollHeight - clientHeight)"
+                                                 "(document.querySelector('#stop span'))"), 0)
+            seen.click("#stop")
             events.until(lambda parts: not any(value and value.get("identifies") for name, value in parts.items()
                                                if name.startswith("fixture/")))
             seen.until("!document.querySelector('#stop')")
@@ -342,7 +347,9 @@ class OtherViews(BrowserTestCase):
                          and not parts[f"fixture/{RIGHT}"]["identifies"])
             # The page may hear it later than this test.
             seen.until("document.querySelector('.identify').ariaChecked === 'true'")
-            seen.button("1 identifies · Stop")
+            self.assertEqual(seen.page.value("document.querySelector('#stop').textContent"),
+                             "Back truss identifies Stop")
+            seen.click("#stop")
             events.until(lambda parts: not parts[f"fixture/{BACK}"]["identifies"])
             seen.button("Next ›")
 
@@ -524,7 +531,7 @@ class OtherViews(BrowserTestCase):
                 seen.until("document.querySelector('.result.bad a')")
                 said = seen.texts(".result.bad")[0]
                 self.assertTrue(said.startswith(TAKE), said)
-                self.assertEqual(said.count("unplug half"), 1)
+                self.assertEqual([said.count(each) for each in ("off the line", "unplug half")], [1, 1])
                 self.assertIn(" Missing: “Lost” (in the file, not in the list). Discovery says more.", said)
             # One that was there before is missing, too: the sentence, the count and the discovery agree.
             rig.gone.add(rig.fixtures[2].uid)

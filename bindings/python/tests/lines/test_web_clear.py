@@ -1,11 +1,13 @@
 """What the page says in chromium where it could mislead: pauses, lies, fixtures that have no label or are gone."""
 from __future__ import annotations
 
+import json
 import unittest
 from typing import Tuple
 
 from browser import needs_chromium
 from common import needs_library
+from fronts import called
 from web_pages import (
     BACK, DESK, HOUSE, LEFT, PHONE, RIGHT, BrowserTestCase, at_each_size, many, opened, row, web_on, window,
 )
@@ -117,6 +119,24 @@ class Clear(BrowserTestCase):
             seen.until("document.querySelector('main > p')?.textContent === "
                        "'497 slots are free, 1 shared, those of 1 fixture unknown.'")
 
+    def test_slots_overlap_as_the_command_check_says(self) -> None:
+        # Two parts of one device may share a slot; a third fixture overlaps each of them.
+        parts = [{"uid": f"4444:0000000{number}", "control": "0002", "binding": "4444:00000001",
+                  "rig": {"label": f"Part {number}", "address": 50, "personalities": [{"footprint": 4}]}}
+                 for number in (2, 3)]
+        with opened(DESK, "slots", devices=parts) as (seen, web, _):
+            seen.until("document.querySelectorAll('button.piece').length === 7")
+            for address, shared in ((20, 0), (51, 3), (1, 1)):
+                web.call("change", uid=LEFT, column="address", value=str(address), force=True)
+                seen.until(f"document.querySelector('main > p').textContent.includes("
+                           f"'slots are free{f', {shared} shared' if shared else ''}.')")
+                out = called("check", "-", "--json", "--line", "rig:/it", text="uid\n")[1]
+                said = [each for each in map(json.loads, out.splitlines()) if each.get("difference") == "overlap"]
+                self.assertEqual(seen.page.value("document.querySelectorAll('.problems li').length"), len(said))
+                self.assertEqual(set(seen.page.value("[...document.querySelectorAll('button.crowded')].map((each) => "
+                                                     "each.dataset.uid)")),
+                                 {uid for each in said for uid in (each["uid"], each["other"])})
+
     def test_what_overlaps_no_longer_while_it_is_moved(self) -> None:
         with opened(DESK, "slots") as (seen, web, _):
             web.call("change", uid=RIGHT, column="address", value="99", force=True)
@@ -171,11 +191,13 @@ class Clear(BrowserTestCase):
             seen.button("Discover")
             # What the one before found is said to be old, and that it is incomplete doesn't vanish.
             seen.until("document.querySelector('main').textContent.includes('so far')")
-            self.assertTrue(seen.texts(".result.bad")[0].startswith("Before this discovery: Take "))
             self.assertIn("Back truss", seen.page.value(SECTIONS)["Missing before this discovery"])
-            for view in ("Fixtures", "Slots"):
+            for view in ("Discovery", "Fixtures", "Slots"):
                 seen.button(view)
-                seen.until("document.querySelector('.result.bad')?.textContent.startsWith('Before this discovery: ')")
+                seen.until(f"document.querySelector('main.{view.lower()} .result.bad')?.textContent.startsWith("
+                           "'Before this discovery: 4444:00000001 did something wrong. It was incomplete: ')")
+                # Nothing is advised for what may be over.
+                self.assertNotRegex(seen.texts("main")[0], r"(?i)\b(take|unplug|split|check|discover again)\b")
             rig.delay = 0.0
             seen.until("document.querySelector('.result.bad')?.textContent.startsWith('Take ')")
 

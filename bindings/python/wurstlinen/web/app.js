@@ -94,8 +94,10 @@ function header(name) {
     const last = parts.get("undo"), now = parts.get("line"), isBad = !token || lost || !now?.there || now.paused;
     // Which fixtures show themselves, and how all of them stop.
     const all = partsOf("fixture/").filter((found) => found.identifies && !found.missing);
-    const stop = all.length > 0 && button(`${all.length} ${all.length > 1 ? "identify" : "identifies"} · Stop`, () =>
-        all.forEach(({ uid }) => act("identify", { uid, on: false })), { id: "stop", disabled: !maySend() });
+    const names = all.map(fixtures.placedNameOf).join(", ");
+    const said = make("span", {}, all.length > 1 ? `${all.length} identify: ${names}` : `${names} identifies`);
+    const stop = all.length > 0 && button([said, " ", make("b", {}, "Stop")], () => all.forEach(({ uid }) =>
+        act("identify", { uid, on: false })), { id: "stop", title: names, disabled: !maySend() });
     const isOwn = maySend() && parts.get("clients")?.some(({ paused, is_page: isPage }) => paused && isPage);
     const where = now?.paused && !lost && make("a", { href: addressOf("line") }, isOwn ? " Resume it in Line"
         : " Line says who paused");

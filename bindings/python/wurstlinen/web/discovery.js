@@ -1,21 +1,23 @@
 // Discovery: how far it is, what it found, who broke the rules, what is missing and why, and its picture.
 import { act, addressOf } from "/app.js";
 import { button, classes, make, plural } from "/dom.js";
-import { advice, linked, nameOf, named } from "/fixtures.js";
+import { advised, linked, nameOf, named, withoutAdvice } from "/fixtures.js";
 import { fixtureOf, maySend, parts, partsOf } from "/server.js";
 
 function resultText(last) {
     const found = `${plural(last.found, "fixture")} found with ${plural(last.frames, "frame")}`;
     const bad = (last.devices ?? []).filter((each) => each.is_broken).map(({ uid }) => uid);
     const names = bad.map((uid) => nameOf(fixtureOf(uid)) || uid).join(", ");
-    const unlisted = bad.filter((uid) => !fixtureOf(uid)).join(", ");
-    const first = (isUnderWay(last) ? "Before this discovery: " : "")
-        + (names && `Take ${names} off the line, and discover again. `)
-        + (unlisted && `${unlisted} isn't in the list: unplug half of the line and discover again to find it. `);
-    return first + (last.fault ? `The discovery is incomplete: ${named(last.fault)}. ${found}.`
+    const unlisted = bad.filter((uid) => !fixtureOf(uid)).join(", "), isOld = isUnderWay(last);
+    // While another one is under way nothing is advised, and otherwise nothing twice.
+    const first = isOld ? `Before this discovery: ${names && `${names} did something wrong. `}`
+        : (names && `Take ${names} off the line, and discover again. `)
+            + (unlisted && `${unlisted} isn't in the list: unplug half of the line and discover again to find it. `);
+    const fault = isOld || bad.some((uid) => last.fault?.includes(uid)) ? withoutAdvice(last.fault ?? "") : last.fault;
+    return first + (fault ? `${isOld ? "It was" : "The discovery is"} incomplete: ${named(fault)}. ${found}.`
         : last.is_broken ? `${found}; a rule was broken, so others may be missing.`
             : last.found ? `${found}; nothing else can be on this line if it is honest.`
-                : `${found}: check the adapter and the first cable.`);
+                : `${found}${isOld ? "" : ": check the adapter and the first cable"}.`);
 }
 
 const isBad = (last) => Boolean(last?.fault || last?.is_broken);
@@ -53,7 +55,7 @@ function progressText(now, last) {
 function section(title, items) {
     return items.length > 0 && make("section", {}, make("h3", {}, title + (isUnderWay() ? " before this discovery"
         : "")), make("ul", {}, items.map(({ uid = "", text }) => make("li", {}, ...(uid ? linked(uid, labelOf(uid))
-        : []), `${uid && text.startsWith("exchange") ? ":" : ""} ${advice(text)}`))));
+        : []), `${uid && text.startsWith("exchange") ? ":" : ""} ${advised(text)}`))));
 }
 
 export function view() {

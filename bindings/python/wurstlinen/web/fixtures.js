@@ -22,8 +22,10 @@ export const placedNameOf = (found) => nameOf(found) + (found?.model && !found.l
 // A text of the page's program, in which fixtures have their names, too.
 export const named = (text) => text.replace(/[0-9a-f]{4}:[0-9a-f]{8}/g, (uid) => linked(uid).map((each) =>
     each.children ?? each).join(""));
-// What is to be done comes first, and then why.
-export const advice = (text) => text.replace(/^(.*); (check .*)$/, "$2 ($1)");
+// A text without what is to be done, which isn't said while another discovery is under way.
+export const withoutAdvice = (text) => text
+    .replace(/[:;] (if it happens again, )?(check|name it|see|split|take) .*?(?= \(exchange |$)/, "");
+export const advised = (text) => (isUnderWay() ? withoutAdvice(text) : text);
 
 // The name of a fixture, which leads to it; or else its label.
 export function linked(uid, label = "") {
@@ -51,7 +53,7 @@ export function notesOf({ uid, missing, notes }) {
     const problems = (parts.get("problems") ?? []).filter((each) => each.uid === uid || each.other === uid);
     const waits = parts.get("line")?.paused && [...busy.keys()].some((name) => name.startsWith(uid));
     return [waits && "waits until RDM is resumed, and can't be taken back before",
-        missing && `missing: ${advice(missing)}`, ...notes.map((each) => each.replaceAll("_", " ")),
+        missing && `missing: ${advised(missing)}`, ...notes.map((each) => each.replaceAll("_", " ")),
         ...problems.map((each) => problemOf(each, uid))].filter(Boolean);
 }
 
