@@ -154,8 +154,8 @@ class Changes(TestCase):
             self.assertEqual(found, [("missing", "1234:00000099"), ("new", RIGHT), ("new", HOUSE), ("new", SECOND),
                                      ("moved", LEFT), ("relabelled", LEFT), ("overlap", LEFT), ("overlap", LEFT)])
             plan = web.call("apply", dry=True)
-            self.assertEqual(plan["changes"], [f"Front left ({LEFT}): address 1 → 20",
-                                               f"Front left ({LEFT}): label Front left → Wash 1"])
+            self.assertEqual(plan["changes"], [{"uid": LEFT, "text": "address 1 → 20"},
+                                               {"uid": LEFT, "text": "label Front left → Wash 1"}])
             self.assertEqual(web.call("apply")["made"], 2)
             events.until(lambda parts: not [each for each in parts["file"]["differences"] if each["uid"] == LEFT])
             saved = web.call("save")["text"]
@@ -292,7 +292,7 @@ class Worst(LongTestCase):
                 return Moody.exchange(rig, frame)
 
             rig.exchange = failing  # type: ignore[method-assign]
-            with mock.patch("wurstlinen.web.rig.AGAIN_SECONDS", 0.1), web_on(rig) as web, web.follow() as events:
+            with mock.patch("wurstlinen.web.watcher.AGAIN_SECONDS", 0.1), web_on(rig) as web, web.follow() as events:
                 events.until(lambda parts: all(parts.get(f"fixture/{uid}", {}).get("is_read") for uid in ALL)
                              and all(len(parts[f"fixture/{uid}"]["personalities"]) == 2 for uid in (LEFT, RIGHT)))
                 self.assertTrue(failed.is_set())

@@ -13,7 +13,7 @@ from typing import Any, Callable, Dict, Iterator, List, Optional, Set, Tuple
 import servers
 from browser import Page, browser
 from common import TestCase, random_scene, scene
-from wurstlinen import LineFailed
+from wurstlinen import LineFailed, connect
 from wurstlinen.lines import OpenLine
 from wurstlinen.lines.rig import Rig
 from wurstlinen.lines.scene import Scene
@@ -76,8 +76,8 @@ class Web:
         self.door = Door((running.LOOPBACK, port))
         self.port = int(self.door.server_address[1])
         server = running.ServerOfLine(line)
-        self._thread = threading.Thread(target=running.serve, daemon=True,
-                                        args=(self.door, server, self.tokens, server.connect()))
+        served = pages.Pages(self.door, self.tokens, lambda: connect(line), server.connect, server.connect())
+        self._thread = threading.Thread(target=served.serve, daemon=True)
         self._thread.start()
 
     @property

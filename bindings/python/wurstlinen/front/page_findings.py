@@ -7,7 +7,7 @@ from __future__ import annotations
 import enum
 import json
 from dataclasses import dataclass
-from typing import AbstractSet, Any, Dict, Iterator, List, Optional, Sequence, Set, Tuple
+from typing import AbstractSet, Any, Dict, Iterator, List, Optional, Sequence, Tuple
 
 from .. import Uid
 from ..lines.uids import is_broadcast, parse_uid
@@ -144,7 +144,7 @@ def findings_in(text: bytes) -> Findings:
         raise NoFindings(f"{type(fault).__name__}: {fault}") from None
 
 
-def findings_of(log: Sequence[str], expected: Sequence[Uid], found: Set[Uid]
+def findings_of(log: Sequence[str], expected: Sequence[Uid]
                 ) -> Tuple[Optional[Findings], Dict[Uid, str], Dict[str, Any]]:
     """What a discovery's log shows of devices that should be on the line, and what pages show of that."""
     place = program()
@@ -160,7 +160,7 @@ def findings_of(log: Sequence[str], expected: Sequence[Uid], found: Set[Uid]
              for number, each in said.of_uids({uid.number for uid in expected})]
     reasons = {uid: each.text.removeprefix(f"{uid} ") for uid, each in about if uid is not None}
     good = {uid for uid, each in about if each.judgement == GOOD}
-    broken = {uid for uid, each in about if each.judgement == GARBLED or (each.judgement == BROKE and uid in found)}
+    broken = {uid for uid, each in about if each.judgement == GARBLED or (each.judgement == BROKE and each.is_found)}
     bad = [{"uid": str(uid), "text": text, "is_broken": uid in broken} for uid, text in reasons.items()
            if uid in broken or uid not in good]
     return said, reasons, {"devices": bad, "others": [each.text for uid, each in about if uid is None],

@@ -3,9 +3,9 @@ from __future__ import annotations
 
 import argparse
 import sys
-from typing import Callable, List, NamedTuple, Sequence
+from typing import Callable, List, NamedTuple, Sequence, Tuple
 
-from .. import Uid
+from .. import Completion, Uid
 from ..lines.uids import is_broadcast, uid_text
 from ..parameters import STANDARD, Parameter, Reading, WordFault, decode, encode
 from ..parameters.encoding import word_counts
@@ -118,8 +118,7 @@ def run_set(chosen: argparse.Namespace, output: Output) -> int:
     note_decimal(chosen.parameter, pid, output)
     check(Asked(pid, chosen.values), chosen.sub, is_set=True)
     with open_work(chosen, output) as work:
-        parameter = STANDARD.numbered(pid) or work.described(uid, pid)
-        completion = work.ask(uid, pid, data_of(parameter, chosen.values, chosen.sub, True), chosen.sub, is_set=True)
+        parameter, completion = change(work, uid, pid, chosen.values, chosen.sub)
         if completion.data:
             output.reading(str(uid), parameter, decode(parameter, True, completion.data))
         elif output.is_json:
@@ -129,6 +128,13 @@ def run_set(chosen: argparse.Namespace, output: Output) -> int:
             from .guarding import note_problems
             note_problems(work, uid)
     return DONE
+
+
+def change(work: Work, uid: Uid, pid: int, values: Sequence[str], sub_device: int = 0
+           ) -> Tuple[Parameter, Completion]:
+    """Sets a parameter of a device, and returns it with the acknowledgement. Raises Failure."""
+    parameter = STANDARD.numbered(pid) or work.described(uid, pid)
+    return parameter, work.ask(uid, pid, data_of(parameter, values, sub_device, True), sub_device, is_set=True)
 
 
 def check(asked: Asked, sub_device: int, is_set: bool) -> None:

@@ -88,7 +88,8 @@ function statusText(now) {
 
 // Takes the last change back, where that is said. In a pause it isn't the last: another one may wait.
 export const mayUndo = () => maySend() && !parts.get("line").paused;
-export const undo = ({ text, back }) => act("undo", { text }, `Undone: ${back}.`);
+const backText = ({ uid, back }) => `${fixtures.named(uid)}: ${back}`;
+export const undo = (last) => act("undo", { text: last.text }, `Undone: ${backText(last)}.`);
 
 function header(name) {
     const last = parts.get("undo"), now = parts.get("line"), isBad = !token || lost || !now?.there || now.paused;
@@ -103,7 +104,7 @@ function header(name) {
         : " Line says who paused");
     return make("header", {}, make("h1", {}, "Wurstlinen"),
         make("p", { id: "status", role: "status", class: classes(isBad && "bad") }, statusText(now), where),
-        stop, button(last ? `Undo (${last.count})` : "Undo", () => say(`Undo: ${last.back}?`, { actions: [{ text:
+        stop, button(last ? `Undo (${last.count})` : "Undo", () => say(`Undo: ${backText(last)}?`, { actions: [{ text:
             "Undo", act: () => undo(last) }] }), { id: "undo", disabled: !mayUndo() || !last }),
         make("nav", { "aria-label": "Views" }, Object.entries(TITLES).map(([each, title]) => make("a",
             { href: addressOf(each), "aria-current": each === name ? "page" : null }, title))));

@@ -7,7 +7,7 @@ from typing import Any, Dict, Sequence
 from .. import Uid
 from ..front.naming import pid_of, raw_parameter
 from ..front.pids import field_keys
-from ..front.requests import data_of
+from ..front.requests import change
 from ..front.showing import CHOICES, Shown
 from ..front.work import Work
 from ..parameters.words import name_of
@@ -69,12 +69,7 @@ class Details:
 
     def set(self, uid: Uid, parameter: str, words: Sequence[str]) -> None:
         """Sets a parameter, and reads the fixture again. Raises Failure."""
-        def set_it(work: Work) -> None:
-            """Sets it."""
-            found = work.described(uid, pid_of(uid.manufacturer, name_of(parameter)))
-            work.ask(uid, found.number, data_of(found, words, 0, is_set=True), is_set=True)
-
-        entry = self._rig.entry(uid)
-        self._rig.hands.do(str(uid), set_it).result()
+        entry, pid = self._rig.entry(uid), pid_of(uid.manufacturer, name_of(parameter))
+        self._rig.hands.do(str(uid), lambda work: change(work, uid, pid, words)).result()
         self._rig.read(entry.device, is_urgent=True)
         self.read(uid)

@@ -8,6 +8,7 @@ from __future__ import annotations
 import contextlib
 import io
 import math
+import re
 import socket
 import socketserver
 import threading
@@ -19,7 +20,6 @@ MOST_CONNECTIONS = 100
 MOST_STREAMS = 32
 MOST_HEAD_BYTES = 16_384
 MOST_BODY_BYTES = 1_100_000
-MOST_DIGITS = 20
 # How long a request may take to come, a connection be idle, and a reader take for what it gets.
 REQUEST_SECONDS = 10.0
 HEADERS = {
@@ -75,17 +75,13 @@ class Handler(BaseHTTPRequestHandler):
     def _body(self) -> bytes:
         """The body of the request. Raises Refusal before it is read if it is too long."""
         text = self.headers.get("Content-Length", "0")
-        is_number = text.isascii() and text.isdigit() and len(text) <= MOST_DIGITS
-        if not is_number or self.headers.get("Transfer-Encoding") is not None:
+        if not re.fullmatch("[0-9]{1,20}", text) or self.headers.get("Transfer-Encoding") is not None:
             raise Refusal(411, "the request has to say how long it is")
         if int(text) > MOST_BODY_BYTES:
             raise Refusal(413, f"the request has more than {MOST_BODY_BYTES} bytes")
         if int(text) and not self.server.admits(self):
             raise Refusal(413, "nothing is read from somebody without a token")
-        body = self.rfile.read(int(text))
-        if len(body) < int(text):
-            raise Refusal(408, "the request ended too early")
-        return body
+        return self.rfile.read(int(text))
 
     def reply(self, status: int, body: bytes, kind: str, headers: Mapping[str, str] = {}) -> None:
         """Sends an answer."""
@@ -129,8 +125,7 @@ class Door(socketserver.ThreadingTCPServer):
 
     def verify_request(self, request: Any, client_address: Any) -> bool:
         """Whether a connection is answered: if there are too many, in place of the oldest idle one."""
-        if len(self.connections) >= MOST_CONNECTIONS:
-            self._end_idle(time.monotonic(), 1)
+        self._end_idle(time.monotonic(), max(0, len(self.connections) + 1 - MOST_CONNECTIONS))
         if len(self.connections) >= MOST_CONNECTIONS:
             return False
         self.connections[request] = time.monotonic()

@@ -1,7 +1,7 @@
 // A saved file: what differs from it, and what makes the fixtures as it says.
 import { act, asked, say } from "/app.js";
 import { button, classes, make, plural } from "/dom.js";
-import { differencesOf, linked } from "/fixtures.js";
+import { differencesOf, linked, named } from "/fixtures.js";
 import { maySend, mayUse, parts } from "/server.js";
 
 async function save() {
@@ -29,7 +29,8 @@ async function look() {
         const absent = parts.get("file")?.differences.filter(({ kind }) => kind === "missing").length;
         const actions = [{ text: `Make ${count}${isBad ? " anyway" : ""}`, act: () => act("apply", { force: isBad },
             `${count} made, and read back.`) }];
-        say([`${count}:`, ...plan.changes, isBad ? `But ${plan.problems.join("; ")}.` : "They make no slots overlap.",
+        const changes = plan.changes.map(({ uid, text }) => `${named(uid)}: ${text}`);
+        say([`${count}:`, ...changes, isBad ? `But ${plan.problems.join("; ")}.` : "They make no slots overlap.",
             plan.solved.length ? `They end this: ${plan.solved.join("; ")}.` : "",
             absent ? `${plural(absent, "missing fixture")} of the file: not changed.` : ""].filter(Boolean).join("\n"),
         { isBad, actions });

@@ -1,6 +1,7 @@
 """What threads share: a board with what pages show, and hands that ask fixtures, none of which holds up the others."""
 from __future__ import annotations
 
+import contextlib
 import os
 import threading
 import time
@@ -57,12 +58,12 @@ class Board:
             self._has_ended = True
             self._changed.notify_all()
 
-    def follow(self) -> Iterator[Parts]:
-        """All parts, then those that change; none if nothing did for a while. Who is slow gets the newest values."""
+    def follow(self, **own: Any) -> Iterator[Parts]:
+        """All parts and these, then what changes; nothing if nothing did for a while. Who is slow gets the newest."""
         changed: Set[str] = set()
         with self._changed:
             self._followers.append(changed)
-            found = dict(self._parts)
+            found = {**self._parts, **own}
         try:
             while not self._has_ended:
                 yield found
@@ -147,8 +148,7 @@ class Hands:
         work: Optional[Work] = None
         while (task := self._next()) is not None:
             try:
-                if work is None or not is_alive(self._clients[number]):
-                    work = self._connected(number)
+                work = self._alive(number, work)
                 task.end.set_result(task.work(work))
             except Exception as fault:  # Only this task has a fault, whatever it is.
                 # Unless it is an answer, none can be trusted any more.
@@ -158,20 +158,15 @@ class Hands:
                 self._busy.discard(task.key)
                 self._has_changed.notify_all()
 
-    def _connected(self, number: int) -> Work:
-        """Another connection in place of the one before. Raises LineFailed."""
+    def _alive(self, number: int, work: Optional[Work]) -> Work:
+        """The same, or another if the server has ended the connection while it was idle. Raises LineFailed."""
+        with contextlib.suppress(Fault, LineFailed):
+            if work is not None and self._clients[number].queue.status():
+                return work
         if number in self._clients:
             self._clients.pop(number).close()
         client = self._clients[number] = self._connect()
         return shared_work(client, SILENT, None, None, WAIT_SECONDS)
-
-
-def is_alive(client: SharedClient) -> bool:
-    """Whether the server hasn't ended the connection while it was idle."""
-    try:
-        return bool(client.queue.status())
-    except (Fault, LineFailed):
-        return False
 
 
 def failure_of(fault: Exception) -> Failure:

@@ -76,15 +76,15 @@ def kept(line: str, wants_new: bool) -> Tokens:
 
 class Pages:
     """Answers requests. What is asked for under /api/ is done by the call of that name, whose parameters are keys.
-    `connect` makes a client of the line's server, and `connect_or_start` starts a server if none runs."""
+    `connect` makes a client of the line's server, and `connect_or_start` starts one if that of `first` has ended."""
 
     def __init__(self, door: Door, tokens: Tokens, connect: Callable[[], SharedClient],
-                 connect_or_start: Callable[[], SharedClient]) -> None:
+                 connect_or_start: Callable[[], SharedClient], first: SharedClient) -> None:
         self.door, self.tokens, self.board = door, tokens, Board()
         self.rig = rig = Rig(self.board, Hands(connect))
         self.discoveries = Discoveries(self.board, rig)
         self.plans = plans = Plans(self.board, rig)
-        self.watcher = Watcher(self.board, connect_or_start, rig, self.discoveries)
+        self.watcher = Watcher(self.board, connect_or_start, first, rig, self.discoveries)
         details = Details(self.board, rig)
         self.calls: Mapping[str, Callable[..., object]] = {
             "change": rig.set, "undo": rig.undo, "identify": rig.identify, "forget": rig.forget, "show": details.read,
@@ -137,7 +137,7 @@ class Pages:
             raise Refusal(400, str(fault)) from None
         except Exception as fault:  # Whatever it is, who asks hears of it.
             answer = {"error": str(failure_of(fault))}
-        handler.reply(200, json.dumps(answer, default=vars).encode(), "application/json")
+        handler.reply(200, json.dumps(answer).encode(), "application/json")
 
     def _events(self, handler: Handler, role: str) -> None:
         """All that the page shows, and each change. A page that doesn't read loses its connection, and nothing else."""
@@ -145,12 +145,10 @@ class Pages:
             raise Refusal(503, f"{MOST_STREAMS} pages are open, and there are no more places")
         try:
             handler.begin(200, {"Content-Type": "text/event-stream"})
-            first = {"role": role}
-            for parts in self.board.follow():
+            for parts in self.board.follow(role=role):
                 # JSON has no newlines.
-                text = json.dumps({**parts, **first}, separators=(",", ":"), default=float)
+                text = json.dumps(parts, separators=(",", ":"), default=float)
                 handler.wfile.write(f"data: {text}\n\n".encode())
-                first = {}
         finally:
             handler.server.streams.release()
 

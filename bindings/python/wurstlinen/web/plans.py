@@ -3,19 +3,17 @@ from __future__ import annotations
 
 import threading
 from io import StringIO
-from itertools import chain
 from typing import Any, Dict, Optional
 
 from ..front.checking import KINDS, MISSING, Difference, changed, crowded, missing
-from ..front.csv_files import COLUMNS, LABEL, MODEL, SLOTS, WRITTEN, RigFile, merged, rig_file, written
+from ..front.csv_files import LABEL, MODEL, SLOTS, WRITTEN, RigFile, merged, rig_file, written
 from ..front.fixtures import keys_of
 from ..front.guarding import ADDRESS, problems_of
 from ..front.output import BAD_ARGUMENTS, Failure, Output
 from ..front.sheets import Sheet
+from ..shared.words import Keys
 from .hands import SILENT, Board, failure_of
-from .rig import PREFIX, Plan, Rig
-
-MOST_NAME = 100
+from .rig import PREFIX, Rig
 
 
 class Plans:
@@ -32,8 +30,8 @@ class Plans:
     def load(self, name: str, text: str) -> None:
         """Takes a file in place of the one before. Raises Failure."""
         remarks = StringIO()
-        self._file = rig_file(name[:MOST_NAME], text.encode(errors="surrogatepass"), Output(False, errors=remarks))
-        self._about = {"name": name[:MOST_NAME], "rows": len(self._file.rows),
+        self._file = rig_file(name, text.encode(errors="surrogatepass"), Output(False, errors=remarks))
+        self._about = {"name": name, "rows": len(self._file.rows),
                        "note": remarks.getvalue().strip().removeprefix("wurstlinen: "),
                        "planned": [(str(row.uid), row.values[ADDRESS], row.cells.get(SLOTS))
                                    for row in self._file.rows if ADDRESS in row.values]}
@@ -53,14 +51,14 @@ class Plans:
         rows = [{name: "" if keys[name] is None else written(str(keys[name])) for name in WRITTEN} for keys in known]
         return {"text": merged(before, rows, SILENT, keeps=True).text()}
 
-    def apply(self, force: bool = False, dry: bool = False) -> Plan:
+    def apply(self, force: bool = False, dry: bool = False) -> Keys:
         """Makes the fixtures as the file says, or only says what that would change. Raises Failure."""
         if self._file is None:
             raise Failure(BAD_ARGUMENTS, "no file is loaded", reason="file")
         here = {fixture.uid for fixture in self._rig.fixtures()}
-        planned = (self._rig.planned(row.uid, column, row.values[column]) for row in self._file.rows
-                   if row.uid in here for column in COLUMNS if column in row.values)
-        return self._rig.change(list(chain.from_iterable(planned)), force, dry)
+        changes = [change for row in self._file.rows if row.uid in here for column, value in row.values.items()
+                   for change in self._rig.planned(row.uid, column, value)]
+        return self._rig.change(changes, force, dry)
 
     def follow(self) -> None:
         """Compares whenever fixtures have changed, until the board's end."""

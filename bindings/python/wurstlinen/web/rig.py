@@ -1,10 +1,11 @@
 """The fixtures as the page knows them: what they have said, what the last discovery said, and changes with undo."""
 from __future__ import annotations
 
+import math
 import threading
 import time
 from concurrent.futures import Future
-from dataclasses import dataclass, field, replace
+from dataclasses import dataclass, replace
 from functools import partial
 from typing import Any, Callable, Dict, List, Mapping, Optional, Sequence, Tuple
 
@@ -18,11 +19,10 @@ from ..front.requests import OFF, ON, identify
 from ..front.work import Work
 from ..parameters import WordFault, encode
 from ..parameters.words import whole
+from ..shared.words import Keys
 from .hands import Board, Hands
 
 MOST_UNDOS = 100
-# How long after the line has failed a device is asked again.
-AGAIN_SECONDS = 5.0
 # What the parts begin with that show a device.
 PREFIX = "fixture/"
 # The page says these in other places.
@@ -37,8 +37,8 @@ class Entry:
     fixture: Fixture
     # Whether it has been asked so far.
     is_read: bool = False
-    # When it was asked in vain, since the line failed.
-    failed_at: Optional[float] = None
+    # When it was asked in vain, since the line failed; if it wasn't, for ever later.
+    failed_at: float = math.inf
     identifies: bool = False
     # Why it isn't there; nothing if the last discovery found it.
     missing: str = ""
@@ -48,17 +48,6 @@ class Entry:
         """What devices have in common that have the same personalities."""
         info = self.fixture.info or {}
         return self.device.uid.manufacturer, info.get("device_model_id"), info.get("software_version_id")
-
-
-@dataclass
-class Plan:
-    """Changes to make, what would be wrong after them, which overlaps they end, and what was made, for a page."""
-
-    changes: List[str]
-    problems: List[str]
-    solved: List[str]
-    made: int = 0
-    failures: List[str] = field(default_factory=list)
 
 
 class Rig:
@@ -139,7 +128,7 @@ class Rig:
         """Has a device asked for all that the table has."""
         new = Entry(device, Fixture(device.uid, root=device.binding or device.uid))
         entry = self.entries.setdefault(device.uid, new)
-        entry.device, entry.missing, entry.failed_at = device, "", None
+        entry.device, entry.missing, entry.failed_at = device, "", math.inf
         self.show(entry)
         self.hands.do(str(device.uid), partial(self._read, entry), is_urgent, "read").add_done_callback(
             partial(self._end_read, entry))
@@ -152,10 +141,6 @@ class Rig:
         elif fault is not None:
             entry.fixture, entry.is_read = replace(entry.fixture, notes=[str(fault)]), True
             self.show(entry)
-
-    def read_again(self) -> None:
-        """Has devices asked again that were asked in vain a while ago."""
-        self.read_those(lambda each: each.failed_at is not None and each.failed_at + AGAIN_SECONDS < time.monotonic())
 
     def read_those(self, is_wanted: Callable[[Entry], bool], is_urgent: bool = False) -> None:
         """Has devices asked again."""
@@ -228,28 +213,30 @@ class Rig:
         is_new = before is None or differs(column, str(before), value)
         return [Change(uid, column, "" if before is None else str(before), value)] if is_new else []
 
-    def set(self, uid: Uid, column: str, value: str, force: bool = False) -> Plan:
+    def set(self, uid: Uid, column: str, value: str, force: bool = False) -> Keys:
         """Changes a value. Raises Failure."""
         return self.change(self.planned(uid, column, value), force)
 
     def change(self, changes: Sequence[Change], is_forced: bool = False, is_dry: bool = False, is_undo: bool = False
-               ) -> Plan:
-        """Makes changes, those of a device in their order, unless slots would overlap or end after the last one."""
+               ) -> Keys:
+        """Makes changes, those of a device in their order, unless slots would overlap or end after the last one. A page
+        gets them, what would be wrong after them, which overlaps they end, how many were made, and why others not."""
         # As `apply` sees it.
         found, moved = self.with_slots(), moved_by(changes)
         problems = problems_after(found, moved, partial(self._changed, changes))
-        plan = Plan([self._text(change) for change in changes], [each.text_after for each in problems],
-                    [f"{each.fixture.label} {each.slots_text}" for each in problems_after(found, moved, lambda now: now)
-                     if each.devices not in [other.devices for other in problems]])
-        if is_dry or (plan.problems and not is_forced):
+        solved = [f"{each.fixture.label} {each.slots_text}" for each in problems_after(found, moved, lambda now: now)
+                  if each.devices not in [other.devices for other in problems]]
+        plan: Keys = {"changes": [{"uid": str(each.uid), "text": self._text(each)} for each in changes],
+                      "problems": [each.text_after for each in problems], "solved": solved, "made": 0, "failures": []}
+        if is_dry or (problems and not is_forced):
             return plan
         for change, end in [(each, self.hands.do(str(each.uid), partial(self._make, each, is_undo)))
                             for each in changes]:
             try:
                 end.result()
-                plan.made += 1
+                plan["made"] += 1
             except Failure as failure:
-                plan.failures.append(f"{change.column}: {failure}")
+                plan["failures"].append(f"{change.column}: {failure}")
         return plan
 
     def _make(self, change: Change, is_undo: bool, work: Work) -> None:
@@ -276,12 +263,7 @@ class Rig:
                 self._set_undos([*self._undos, change])
 
     def _text(self, change: Change) -> str:
-        """A change, for a page."""
-        fixture = self.entries[change.uid].fixture if change.uid in self.entries else Fixture(change.uid)
-        return f"{fixture.label or fixture.model or ''} ({change.uid}): {self._values_text(change)}".lstrip()
-
-    def _values_text(self, change: Change) -> str:
-        """The same without the device."""
+        """A change of a device, for pages."""
         before, after = (self.value_text(change.uid, change.column, each) for each in (change.before, change.after))
         return f"{change.column} {before} → {after}"
 
@@ -305,9 +287,9 @@ class Rig:
         last = undos[-1] if undos else None
         self._board.put("undo", last and {
             "text": last.text, "back": self._text(replace(last, before=last.after, after=last.before)),
-            "made": self._values_text(last), "count": len(self._undos), "uid": str(last.uid)})
+            "made": self._text(last), "count": len(self._undos), "uid": str(last.uid)})
 
-    def undo(self, text: str = "", force: bool = False) -> Plan:
+    def undo(self, text: str = "", force: bool = False) -> Keys:
         """Takes the last change back, unless slots would overlap or end after the last one. Raises Failure if that
         isn't the change with this text, or if somebody has changed it since."""
         with self.lock:
@@ -322,7 +304,7 @@ class Rig:
                 raise Failure(FAILED, f"{last.uid} has {last.column} {now} by now, so it isn't taken back",
                               reason="undo")
         plan = self.change([replace(last, before=last.after, after=last.before)], force, is_undo=True)
-        if plan.made:
+        if plan["made"]:
             with self.lock:
                 self._set_undos([each for each in self._undos if each is not last])
         return plan

@@ -97,7 +97,7 @@ def run_web(chosen: argparse.Namespace, output: Output) -> int:
         end_by(lambda number, frame: threading.Thread(target=door.shutdown, daemon=True).start(),
                signal.SIGINT, signal.SIGTERM, signal.SIGHUP)
         tell(line, door, tokens, chosen, output)
-        serve(door, server, tokens, first)
+        Pages(door, tokens, lambda: connect(line), server.connect, first).serve()
     return DONE
 
 
@@ -107,12 +107,6 @@ def opened(chosen: argparse.Namespace) -> Door:
         return Door(("" if chosen.allow_network else LOOPBACK, chosen.port))
     except OSError as fault:
         raise Failure(FAILED, f"port {chosen.port}: {fault.strerror}; --port N takes another", reason="port") from None
-
-
-def serve(door: Door, server: ServerOfLine, tokens: Tokens, first: SharedClient) -> None:
-    """Serves what comes through a door, until that is shut."""
-    waiting = [first]
-    Pages(door, tokens, lambda: connect(server.line), lambda: waiting.pop() if waiting else server.connect()).serve()
 
 
 def tell(line: str, door: Door, tokens: Tokens, chosen: argparse.Namespace, output: Output) -> None:

@@ -35,6 +35,8 @@ MOST_REQUESTS = 100
 # How often it is asked who is connected, and how long a part of that is waited for something to come.
 LOOK_SECONDS = 1.0
 SLICE_SECONDS = 0.25
+# How long after the line has failed a device is asked again.
+AGAIN_SECONDS = 5.0
 # The parameters whose SET changes what the table shows.
 SHOWN = {STANDARD.named(name).number for name in ("device_label", "dmx_start_address", "dmx_personality",
                                                   "identify_device", "factory_defaults", "reset_device")}
@@ -88,8 +90,7 @@ class Discoveries:
         ended: Dict[str, Any] = {"fault": fault, "found": len(devices), "frames": max(0, len(log) - 1)}
         self._show(**ended, others=["looking at what it shows ..."])
         self._rig.adopt(devices, fault, reads_all=True)
-        found = {device.uid for device in devices}
-        said, reasons, shown = findings_of(log, sorted({*self._rig.labels(), *found})[:MOST_EXPECTED], found)
+        said, reasons, shown = findings_of(log, sorted(self._rig.labels())[:MOST_EXPECTED])
         # Nobody can guess its name.
         self._pictures = {secrets.token_urlsafe(16): (log, said)} if said is not None else {}
         self._show(**ended, **shown, picture="".join(self._pictures))
@@ -110,16 +111,17 @@ class Discoveries:
 
 
 class Watcher(threading.Thread):
-    """Watches the server of the line by a connection of its own, which `connect` makes, and puts what it sees on the
-    board. The rig asks the devices again that other programs change."""
+    """Watches the server of the line by a connection of its own, which `connect` makes after the first one, and puts
+    what it sees on the board. The rig asks the devices again that other programs change."""
 
-    def __init__(self, board: Board, connect: Callable[[], SharedClient], rig: Rig, discoveries: Discoveries) -> None:
+    def __init__(self, board: Board, connect: Callable[[], SharedClient], first: SharedClient, rig: Rig,
+                 discoveries: Discoveries) -> None:
         super().__init__(name="watcher", daemon=True)
         self._board = board
         self._connect = connect
         self._rig = rig
         self._discoveries = discoveries
-        self._client: Optional[SharedClient] = None
+        self._client: Optional[SharedClient] = first
         self._has_ended = threading.Event()
         # The last requests, by their numbers, and how many there were.
         self._requests: Dict[int, Dict[str, Any]] = {}
@@ -153,7 +155,7 @@ class Watcher(threading.Thread):
         """Watches until the end."""
         while not self._has_ended.is_set():
             try:
-                self._client = self._connect()
+                self._client = self._client or self._connect()
                 self._watch(self._client)
             except Exception as fault:  # Whatever it is, the page goes on with another connection.
                 self._gone(str(failure_of(fault)))
@@ -174,16 +176,14 @@ class Watcher(threading.Thread):
         self._told_run, self._run_number = None, 0
         queue.on_frame = self._take
         queue.subscribe([FRAMES])
-        next_look, was_there = 0.0, True
+        next_look = 0.0
         while not self._has_ended.is_set():
             if time.monotonic() >= next_look:
                 self._look(client)
                 next_look = time.monotonic() + LOOK_SECONDS
-            if queue.is_there and not was_there:
-                self._rig.read_those(lambda entry: not entry.is_read)
-            was_there, is_paused = queue.is_there, queue.is_paused()
-            self._board.put("line", {"served": True, "there": was_there, "reason": queue.reason, "name": queue.name,
-                                     "paused": is_paused, "source": str(queue.source), "process": queue.process})
+            self._board.put("line", {
+                "served": True, "there": queue.is_there, "reason": queue.reason, "name": queue.name,
+                "paused": queue.is_paused(), "source": str(queue.source), "process": queue.process})
             queue.connection.receive(SLICE_SECONDS)
             self._tell_progress()
 
@@ -194,7 +194,8 @@ class Watcher(threading.Thread):
             self._told_run = run
             self._discoveries.take(client.queue.devices() if run else None)
         if client.queue.is_there:
-            self._rig.read_again()
+            late = time.monotonic() - AGAIN_SECONDS
+            self._rig.read_those(lambda entry: entry.failed_at < late)
         own = {*self._rig.hands.numbers, client.queue.number}
         self._board.put("clients", [{**each, "is_page": each["client"] in own} for each in client.queue.clients()])
 
@@ -210,7 +211,6 @@ class Watcher(threading.Thread):
             self._progress.begin(None)
         self._progress.saw(frame, reply)
         self._last_frame = time.monotonic()
-        self._tell_progress()
 
     def _tell_progress(self) -> None:
         """Shows how far a run is."""
