@@ -250,8 +250,9 @@ class Fixtures(BrowserTestCase):
     def test_filter_and_order(self, size: Tuple[int, int]) -> None:
         with opened(size) as (seen, _, _rig):
             seen.until("document.querySelectorAll('.rig tbody tr').length === 5")
+            both = [SECOND, "Dimmer, second half at 1"]
             seen.until(f"document.querySelector(\"{row(SECOND)} .label\").placeholder === "
-                       f"'Dimmer, second half at 1, {SECOND}'")
+                       f"'{', '.join(both if size == PHONE else reversed(both))}'")
             seen.click("input[type=search]")
             seen.type("wash front")
             seen.until("document.querySelectorAll('.rig tbody tr').length === 2")
@@ -486,6 +487,9 @@ class OtherViews(BrowserTestCase):
             seen.until("document.querySelector('.count')?.textContent === '4 fixtures'")
             seen.button("Discovery")
             if program() is not None:
+                # Who is missing has broken no rule.
+                self.assertRegex(seen.texts(".result")[0], r"^4 fixtures found with \d+ frames\. "
+                                                           r"1 listed fixture was not found\.$")
                 seen.until("document.querySelector('iframe')?.src.includes('/picture/')")
                 if size == PHONE:
                     # It has all of the phone's width, and isn't scrolled within the page.

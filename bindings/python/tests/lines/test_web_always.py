@@ -202,6 +202,10 @@ class Always(BrowserTestCase):
             seen.until("document.querySelector('.sending')?.textContent === 'No fixture so far: Discovery says more.'")
             seen.click(".sending a")
             seen.until("document.querySelector('.result')?.textContent.startsWith('0 fixtures found')")
+            # Nobody seems to know that slots are free.
+            seen.button("Slots")
+            seen.until("document.querySelector('main > p')?.textContent === "
+                       "'No fixture so far, so no slot is known to be taken.'")
 
     def test_no_token(self) -> None:
         with five() as (web, _), window(web.address.partition("#")[0]) as seen:

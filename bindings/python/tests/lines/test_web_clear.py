@@ -59,6 +59,16 @@ class Clear(BrowserTestCase):
             seen.until("document.querySelector('.problems li:last-child')?.textContent === 'and 775 more'")
             self.assertEqual(len(set(seen.texts(".problems li"))), 6)
             self.assertEqual(len(set(seen.texts("button.piece"))), 40)
+            # Nothing is cut off of what tells them apart, and no other one's UID seems to be a row's.
+            seen.button("Fixtures")
+            seen.until("document.querySelectorAll('.rig .label:enabled').length === 40")
+            wanted = "uid + ', Simulated fixture at 1'" if size == PHONE else "'Simulated fixture at 1, ' + uid"
+            self.assertEqual(seen.page.value(f"""[...document.querySelectorAll("tbody tr")].filter((row) => {{
+                const uid = row.id;
+                return row.querySelector(".label").placeholder !== {wanted}
+                    || row.querySelector(".note p").textContent.trim() !== "overlaps 39 others";
+            }}).length"""), 0)
+            seen.button("Slots")
             self.assertLess(seen.page.value("document.querySelector('.universe').getBoundingClientRect().top"), size[1])
 
     @at_each_size
@@ -194,8 +204,8 @@ class Clear(BrowserTestCase):
             self.assertIn("Back truss", seen.page.value(SECTIONS)["Missing before this discovery"])
             for view in ("Discovery", "Fixtures", "Slots"):
                 seen.button(view)
-                seen.until(f"document.querySelector('main.{view.lower()} .result.bad')?.textContent.startsWith("
-                           "'Before this discovery: 4444:00000001 did something wrong. It was incomplete: ')")
+                seen.until(f"document.querySelector('main.{view.lower()} .result.bad')?.textContent.startsWith('Before "
+                           "this discovery: 4444:00000001 did something wrong. The one before was incomplete: ')")
                 # Nothing is advised for what may be over.
                 self.assertNotRegex(seen.texts("main")[0], r"(?i)\b(take|unplug|split|check|discover again)\b")
             rig.delay = 0.0

@@ -49,8 +49,9 @@ GAP = "gap"
 # The judgements on bytes that read as a device's, which need not have sent them.
 STRAY = ("stray", "unexplained")
 NOTHING_ELSE = "nothing else can be on this line if it is honest"
+# Who hears nothing has more reason to doubt the line.
+NOTHING = "No fixture found: check the adapter and the first cable."
 COMPLETE = f"{{}} found; {NOTHING_ELSE}."
-ALL_COMPLETE = f"The last of {{}} discoveries: {{}} found; {NOTHING_ELSE}."
 
 
 @dataclass(frozen=True)
@@ -164,7 +165,7 @@ def findings_of(log: Sequence[str], expected: Sequence[Uid]
     bad = [{"uid": str(uid), "text": text, "is_broken": uid in broken} for uid, text in reasons.items()
            if uid in broken or uid not in good]
     return said, reasons, {"devices": bad, "others": [each.text for uid, each in about if uid is None],
-                           "is_broken": said.is_broken}
+                           "is_broken": said.is_broken, "missing": said.missing()}
 
 
 def run_findings(run: Dict[str, Any], place: int) -> List[Finding]:
@@ -210,5 +211,5 @@ def worst_of(runs: Sequence[Run]) -> List[str]:
 def complete_of(runs: Sequence[Run]) -> str:
     """What is said if all discoveries are complete, and no rule was broken."""
     count = runs[-1].devices
-    fixtures = f"{count or 'No'} fixture{'' if count < 2 else 's'}"
-    return COMPLETE.format(fixtures) if len(runs) == 1 else ALL_COMPLETE.format(len(runs), fixtures)
+    said = COMPLETE.format(f"{count} fixture{'' if count < 2 else 's'}") if count else NOTHING
+    return said if len(runs) == 1 else f"The last of {len(runs)} discoveries: {said}"

@@ -14,10 +14,12 @@ function resultText(last) {
         : (names && `Take ${names} off the line, and discover again. `)
             + (unlisted && `${unlisted} isn't in the list: unplug half of the line and discover again to find it. `);
     const fault = isOld || bad.some((uid) => last.fault?.includes(uid)) ? withoutAdvice(last.fault ?? "") : last.fault;
-    return first + (fault ? `${isOld ? "It was" : "The discovery is"} incomplete: ${named(fault)}. ${found}.`
-        : last.is_broken ? `${found}; a rule was broken, so others may be missing.`
-            : last.found ? `${found}; nothing else can be on this line if it is honest.`
-                : `${found}${isOld ? "" : ": check the adapter and the first cable"}.`);
+    const which = isOld ? "The one before was" : "The discovery is";
+    return first + (fault ? `${which} incomplete: ${named(fault)}. ${found}.`
+        : last.missing ? `${found}. ${last.missing}`
+            : last.is_broken ? `${found}; a rule was broken, so others may be missing.`
+                : last.found ? `${found}; nothing else can be on this line if it is honest.`
+                    : `${found}${isOld ? "" : ": check the adapter and the first cable"}.`);
 }
 
 const isBad = (last) => Boolean(last?.fault || last?.is_broken);

@@ -10,6 +10,8 @@ export const SENDING = isTouched ? "Leaving a box sends what you typed; ✕ befo
     : "Enter, or leaving a field, sends what you typed; Escape before that restores it.";
 const WALKING = "Identify next stops the one before it; it goes through what is shown, in this order.";
 const PAUSED = "RDM is paused: what you send, Identify and Stop wait until it is resumed. Undo waits for that, too.";
+// More aren't named.
+const MOST_OVERLAPS = 3;
 const chosen = { filter: "", column: "address", isDown: false };
 // The fixture to which this page's walk has come, which the page's program may not have shown so far.
 let walked = null;
@@ -51,10 +53,13 @@ export function freeFrom({ root, first, last }, wanted) {
 // What is wrong with a fixture, and what else is remarkable.
 export function notesOf({ uid, missing, notes }) {
     const problems = (parts.get("problems") ?? []).filter((each) => each.uid === uid || each.other === uid);
+    const [ends, overlaps] = ["end", "overlap"].map((wanted) => problems.filter(({ kind }) => kind === wanted)
+        .map((each) => problemOf(each, uid)));
     const waits = parts.get("line")?.paused && [...busy.keys()].some((name) => name.startsWith(uid));
     return [waits && "waits until RDM is resumed, and can't be taken back before",
         missing && `missing: ${advised(missing)}`, ...notes.map((each) => each.replaceAll("_", " ")),
-        ...problems.map((each) => problemOf(each, uid))].filter(Boolean);
+        ...ends, ...(overlaps.length > MOST_OVERLAPS ? [`overlaps ${overlaps.length} others`] : overlaps)]
+        .filter(Boolean);
 }
 
 export const remarksOf = ({ uid, root, is_slow: isSlow }) => [root === uid ? "" : `part of ${nameOf(fixtureOf(root))
@@ -121,7 +126,7 @@ export function editor(found, column) {
         onkeydown, onchange: leaveIt, onblur: leaveIt, autocomplete: "off", spellcheck: "false",
         "aria-label": `${COLUMNS[column]} of ${nameOf(found)}`, inputmode: column === "address" ? "numeric" : null,
         maxlength: isLabel ? 128 : null, placeholder: isLabel && found.is_read
-            ? [...new Set([nameOf(found), uid])].join(", ") : null,
+            ? [...new Set(isTouched ? [uid, nameOf(found)] : [nameOf(found), uid])].join(", ") : null,
         disabled: !maySend() || Boolean(found.missing) || !found.is_read
             || (isChoice && found.personalities.length < 2) }, isChoice ? personalitiesOf(found) : []),
     isTouched && !isChoice && !busy.has(name) && leave];

@@ -113,15 +113,17 @@ function piecesOf(found, owners) {
 
 export function view() {
     const fixtures = placed(), owners = ownersOf(fixtures);
-    const unknown = partsOf("fixture/").filter((found) => slotsOf(found) === "unknown").length;
+    const all = partsOf("fixture/");
+    const unknown = all.filter((found) => ["…", "unknown"].includes(slotsOf(found))).length;
     const crowded = owners.filter((each) => each > 1).length, free = owners.filter((each) => !each).length;
     const problems = parts.get("problems") ?? [];
     const isMoot = (each) => moving && [each.uid, each.other].includes(moving.uid);
     const more = problems.slice(MOST_PROBLEMS).filter((each) => !isMoot(each)).length;
     const old = fixtureOf(moving?.uid), isOld = (slot) => old && old.first <= slot && slot <= old.last;
     const opened = ({ target: { dataset: { uid } } }) => uid && (location.hash = addressOf("fixture", uid));
-    return [alarm(), make("p", {}, `${free} slots are free${crowded ? `, ${crowded} shared` : ""}${
-        unknown ? `, those of ${plural(unknown, "fixture")} unknown` : ""}${moving ? ", once this is sent" : ""}.`),
+    return [alarm(), make("p", {}, !all.length ? "No fixture so far, so no slot is known to be taken."
+        : `${free} slots are free${crowded ? `, ${crowded} shared` : ""}${
+            unknown ? `, those of ${plural(unknown, "fixture")} unknown` : ""}${moving ? ", once this is sent" : ""}.`),
         // What is wrong with a fixture so far isn't shown beside where it is moved to, which may be free.
         make("ul", { class: "problems" }, problems.slice(0, MOST_PROBLEMS).map((each) => make("li",
             { class: classes(isMoot(each) && "moot") },
