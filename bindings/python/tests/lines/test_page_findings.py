@@ -85,7 +85,8 @@ class Findings(TestCase):
                 ([none], "No discovery."), ([], "No discovery."),
                 ([complete], f"1 fixture found; {honest}"),
                 ([{**complete, "devices": 5}], f"5 fixtures found; {honest}"),
-                ([{**complete, "devices": 0, "end": "no fault"}], "No fixture found: check the adapter and the first cable."),
+                ([{**complete, "devices": 0, "end": "no fault"}],
+                 "No fixture found: check the adapter and the first cable."),
                 ([complete, {**complete, "devices": 2}], f"The last of 2 discoveries: 2 fixtures found; {honest}"),
                 ([corrupt], "The discovery failed."), ([line_failed], "The discovery failed."),
                 *(([{**incomplete, "end": end}], "The discovery failed.")
