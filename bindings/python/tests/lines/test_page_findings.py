@@ -96,7 +96,7 @@ class Findings(TestCase):
                 ([complete, incomplete, cut], "1 of 3 discoveries are incomplete."),
                 ([cut, complete], "It isn't decided whether 1 of 2 discoveries are complete.")):
             self.assertEqual(page_findings.findings_in(document(runs)).verdict(), [wanted, unbroken])
-            said = [] if honest in wanted else [wanted]
+            said = [] if honest in wanted or "first cable" in wanted else [wanted]
             broken = page_findings.findings_in(document(runs, broken=True))
             self.assertEqual(broken.verdict(), ["A rule was broken.", *said])
 

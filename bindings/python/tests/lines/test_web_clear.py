@@ -63,11 +63,9 @@ class Clear(BrowserTestCase):
             seen.button("Fixtures")
             seen.until("document.querySelectorAll('.rig .label:enabled').length === 40")
             wanted = "uid + ', Simulated fixture at 1'" if size == PHONE else "'Simulated fixture at 1, ' + uid"
-            self.assertEqual(seen.page.value(f"""[...document.querySelectorAll("tbody tr")].filter((row) => {{
-                const uid = row.id;
-                return row.querySelector(".label").placeholder !== {wanted}
-                    || row.querySelector(".note p").textContent.trim() !== "overlaps 39 others";
-            }}).length"""), 0)
+            seen.until(f"""[...document.querySelectorAll("tbody tr")].every(({{ id: uid, children }}) =>
+                children[1].firstChild.placeholder === {wanted}
+                && children[7].querySelector("span").textContent === "overlaps 39 others")""")
             seen.button("Slots")
             self.assertLess(seen.page.value("document.querySelector('.universe').getBoundingClientRect().top"), size[1])
 
