@@ -59,6 +59,7 @@ class Clear(BrowserTestCase):
             seen.until("document.querySelector('.problems li:last-child')?.textContent === 'and 775 more'")
             self.assertEqual(len(set(seen.texts(".problems li"))), 6)
             self.assertEqual(len(set(seen.texts("button.piece"))), 40)
+            self.assertLess(seen.page.value("document.querySelector('.universe').getBoundingClientRect().top"), size[1])
             # Nothing is cut off of what tells them apart, and no other one's UID seems to be a row's.
             seen.button("Fixtures")
             seen.until("document.querySelectorAll('.rig .label:enabled').length === 40")
@@ -66,8 +67,6 @@ class Clear(BrowserTestCase):
             seen.until(f"""[...document.querySelectorAll("tbody tr")].every(({{ id: uid, children }}) =>
                 children[1].firstChild.placeholder === {wanted}
                 && children[7].querySelector("span").textContent === "overlaps 39 others")""")
-            seen.button("Slots")
-            self.assertLess(seen.page.value("document.querySelector('.universe').getBoundingClientRect().top"), size[1])
 
     @at_each_size
     def test_a_discovery_with_a_liar(self, size: Tuple[int, int]) -> None:
