@@ -335,6 +335,8 @@ class OtherViews(BrowserTestCase):
                 self.assertLess(box[2], PHONE[1] / 2)
             seen.click(".identify")
             events.until(lambda parts: parts.get(f"fixture/{BACK}", {}).get("identifies"))
+            # What was read before doesn't contradict it.
+            self.assertEqual([each for each in seen.texts("dt") if "identify" in each], [])
             seen.click("[aria-label='Address one higher']")
             events.until(lambda parts: parts[f"fixture/{BACK}"]["address"] == 101)
             seen.until("!document.querySelector('.address.busy') && document.querySelector('.address').value === '101'")

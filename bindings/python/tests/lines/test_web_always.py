@@ -181,7 +181,7 @@ class Always(BrowserTestCase):
     def test_only_looking(self, size: Tuple[int, int]) -> None:
         with opened(size, looking=True) as (seen, _, rig):
             seen.until(f"document.querySelector(\"{row(LEFT)} .label\")?.value === 'Front left'")
-            self.assertIn("view only", seen.texts("#status")[0])
+            self.assertTrue(seen.texts("#status")[0].startswith("view only · "))
             before = rig.exchanges
             for view in ("fixtures", "slots", "file", f"fixture/{LEFT}", "discovery", "line"):
                 seen.page.value(f"location.hash = location.hash.split('/')[0] + '/{view}'")

@@ -81,7 +81,7 @@ function statusText(now) {
     const mode = now?.paused ? "paused: no RDM request is sent" : parts.get("role") === "looks" && "view only";
     return token === "" ? "This link has no token: ask whoever started the page for the whole link."
         : lost || !now ? `Not connected: ${lost || "no line so far"}.${parts.size ? " What you see is old." : ""}`
-            : now.there ? now.name + (mode ? ` · ${mode}` : "")
+            : now.there ? [mode === "view only" && mode, now.name, now.paused && mode].filter(Boolean).join(" · ")
                 : now.served ? `${now.name}: adapter unplugged, waiting for it; what you see is old`
                     : `No line: ${now.reason}`;
 }

@@ -44,7 +44,9 @@ function formOf(uid, { parameter, about, acts, fields }) {
 }
 
 // A section stays, with what somebody types in its forms, whatever its values are. Some titles come again.
-function sectionOf(uid, name, rows, forms) {
+function sectionOf(uid, name, all, forms) {
+    // Its switch says whether it identifies now.
+    const rows = all.filter(([title]) => title.replaceAll("_", " ") !== "identify device");
     const found = rows.map(([title]) => (mayUse() && forms[title.replaceAll("_", " ")]) || null);
     return make("section", { key: name }, make("h3", {}, name), make("dl", {}, rows.map(([title, text], at) =>
         make("div", { key: rows.findIndex(([each]) => each === title) === at ? title : at },
