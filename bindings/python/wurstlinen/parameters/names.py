@@ -1,326 +1,114 @@
 """The names that E1.20 gives to numbers, in lower case and without their prefixes."""
 from __future__ import annotations
 
-from typing import Mapping
+from typing import Dict, Mapping
 
-NACK_REASONS: Mapping[int, str] = {
-    0x0000: "unknown_pid",
-    0x0001: "format_error",
-    0x0002: "hardware_fault",
-    0x0003: "proxy_reject",
-    0x0004: "write_protect",
-    0x0005: "unsupported_command_class",
-    0x0006: "data_out_of_range",
-    0x0007: "buffer_full",
-    0x0008: "packet_size_unsupported",
-    0x0009: "sub_device_out_of_range",
-    0x000A: "proxy_buffer_full",
-    # E1.37-2
-    0x000B: "action_not_supported",
-    # E1.37-7
-    0x000C: "endpoint_number_invalid",
-    0x000D: "invalid_endpoint_mode",
-    0x000E: "unknown_uid",
-    # E1.33
-    0x000F: "unknown_scope",
-    0x0010: "invalid_static_config_type",
-    0x0011: "invalid_ipv4_address",
-    0x0012: "invalid_ipv6_address",
-    0x0013: "invalid_port",
-}
 
-STATUS_TYPES: Mapping[int, str] = {
-    0x00: "none",
-    0x01: "get_last_message",
-    0x02: "advisory",
-    0x03: "warning",
-    0x04: "error",
-    0x12: "advisory_cleared",
-    0x13: "warning_cleared",
-    0x14: "error_cleared",
-}
+def _numbered(rows: str) -> Mapping[int, str]:
+    """The names of rows of text: each row has the first one's number, that one, and those of the numbers after it."""
+    found: Dict[int, str] = {}
+    for row in rows.strip().splitlines():
+        first, *listed = row.split()
+        found.update(enumerate(listed, int(first, 16)))
+    return found
 
-STATUS_IDS: Mapping[int, str] = {
-    0x0001: "cal_fail",
-    0x0002: "sens_not_found",
-    0x0003: "sens_always_on",
-    0x0004: "feedback_error",
-    0x0005: "index_error",
-    0x0011: "lamp_doused",
-    0x0012: "lamp_strike",
-    0x0013: "lamp_access_open",
-    0x0014: "lamp_always_on",
-    0x0021: "overtemp",
-    0x0022: "undertemp",
-    0x0023: "sens_out_range",
-    0x0031: "overvoltage_phase",
-    0x0032: "undervoltage_phase",
-    0x0033: "overcurrent",
-    0x0034: "undercurrent",
-    0x0035: "phase",
-    0x0036: "phase_error",
-    0x0037: "amps",
-    0x0038: "volts",
-    0x0041: "dimslot_occupied",
-    0x0042: "breaker_trip",
-    0x0043: "watts",
-    0x0044: "dim_failure",
-    0x0045: "dim_panic",
-    0x0046: "load_failure",
-    0x0050: "ready",
-    0x0051: "not_ready",
-    0x0052: "low_fluid",
-    0x0060: "eeprom_error",
-    0x0061: "ram_error",
-    0x0062: "fpga_error",
-    0x0070: "proxy_broadcast_dropped",
-    0x0071: "asc_rxok",
-    0x0072: "asc_dropped",
-    0x0080: "dmxnscnone",
-    0x0081: "dmxnscloss",
-    0x0082: "dmxnscerror",
-    0x0083: "dmxnsc_ok",
-}
 
-PRODUCT_CATEGORIES: Mapping[int, str] = {
-    0x0000: "not_declared",
-    0x0100: "fixture",
-    0x0101: "fixture_fixed",
-    0x0102: "fixture_moving_yoke",
-    0x0103: "fixture_moving_mirror",
-    0x01FF: "fixture_other",
-    0x0200: "fixture_accessory",
-    0x0201: "fixture_accessory_color",
-    0x0202: "fixture_accessory_yoke",
-    0x0203: "fixture_accessory_mirror",
-    0x0204: "fixture_accessory_effect",
-    0x0205: "fixture_accessory_beam",
-    0x02FF: "fixture_accessory_other",
-    0x0300: "projector",
-    0x0301: "projector_fixed",
-    0x0302: "projector_moving_yoke",
-    0x0303: "projector_moving_mirror",
-    0x03FF: "projector_other",
-    0x0400: "atmospheric",
-    0x0401: "atmospheric_effect",
-    0x0402: "atmospheric_pyro",
-    0x04FF: "atmospheric_other",
-    0x0500: "dimmer",
-    0x0501: "dimmer_ac_incandescent",
-    0x0502: "dimmer_ac_fluorescent",
-    0x0503: "dimmer_ac_coldcathode",
-    0x0504: "dimmer_ac_nondim",
-    0x0505: "dimmer_ac_elv",
-    0x0506: "dimmer_ac_other",
-    0x0507: "dimmer_dc_level",
-    0x0508: "dimmer_dc_pwm",
-    0x0509: "dimmer_cs_led",
-    0x05FF: "dimmer_other",
-    0x0600: "power",
-    0x0601: "power_control",
-    0x0602: "power_source",
-    0x06FF: "power_other",
-    0x0700: "scenic",
-    0x0701: "scenic_drive",
-    0x07FF: "scenic_other",
-    0x0800: "data",
-    0x0801: "data_distribution",
-    0x0802: "data_conversion",
-    0x08FF: "data_other",
-    0x0900: "av",
-    0x0901: "av_audio",
-    0x0902: "av_video",
-    0x09FF: "av_other",
-    0x0A00: "monitor",
-    0x0A01: "monitor_aclinepower",
-    0x0A02: "monitor_dcpower",
-    0x0A03: "monitor_environmental",
-    0x0AFF: "monitor_other",
-    0x7000: "control",
-    0x7001: "control_controller",
-    0x7002: "control_backupdevice",
-    0x70FF: "control_other",
-    0x7100: "test",
-    0x7101: "test_equipment",
-    0x71FF: "test_equipment_other",
-    0x7FFF: "other",
-}
+# The last rows are those of E1.37-2, E1.37-7 and E1.33.
+NACK_REASONS = _numbered("""
+    0000 unknown_pid format_error hardware_fault proxy_reject write_protect unsupported_command_class
+    0006 data_out_of_range buffer_full packet_size_unsupported sub_device_out_of_range proxy_buffer_full
+    000b action_not_supported
+    000c endpoint_number_invalid invalid_endpoint_mode unknown_uid
+    000f unknown_scope invalid_static_config_type invalid_ipv4_address invalid_ipv6_address invalid_port
+""")
 
-PRODUCT_DETAILS: Mapping[int, str] = {
-    0x0000: "not_declared",
-    0x0001: "arc",
-    0x0002: "metal_halide",
-    0x0003: "incandescent",
-    0x0004: "led",
-    0x0005: "fluorescent",
-    0x0006: "coldcathode",
-    0x0007: "electroluminescent",
-    0x0008: "laser",
-    0x0009: "flashtube",
-    0x0100: "colorscroller",
-    0x0101: "colorwheel",
-    0x0102: "colorchange",
-    0x0103: "iris_douser",
-    0x0104: "dimming_shutter",
-    0x0105: "profile_shutter",
-    0x0106: "barndoor_shutter",
-    0x0107: "effects_disc",
-    0x0108: "gobo_rotator",
-    0x0200: "video",
-    0x0201: "slide",
-    0x0202: "film",
-    0x0203: "oilwheel",
-    0x0204: "lcdgate",
-    0x0300: "fogger_glycol",
-    0x0301: "fogger_mineraloil",
-    0x0302: "fogger_water",
-    0x0303: "co2",
-    0x0304: "ln2",
-    0x0305: "bubble",
-    0x0306: "flame_propane",
-    0x0307: "flame_other",
-    0x0308: "olefactory_stimulator",
-    0x0309: "snow",
-    0x030A: "water_jet",
-    0x030B: "wind",
-    0x030C: "confetti",
-    0x030D: "hazard",
-    0x0400: "phase_control",
-    0x0401: "reversephase_control",
-    0x0402: "sine",
-    0x0403: "pwm",
-    0x0404: "dc",
-    0x0405: "hfballast",
-    0x0406: "hfhv_neonballast",
-    0x0407: "hfhv_el",
-    0x0408: "mhr_ballast",
-    0x0409: "bitangle_modulation",
-    0x040A: "frequency_modulation",
-    0x040B: "highfrequency_12v",
-    0x040C: "relay_mechanical",
-    0x040D: "relay_electronic",
-    0x040E: "switch_electronic",
-    0x040F: "contactor",
-    0x0500: "mirrorball_rotator",
-    0x0501: "other_rotator",
-    0x0502: "kabuki_drop",
-    0x0503: "curtain",
-    0x0504: "lineset",
-    0x0505: "motor_control",
-    0x0506: "damper_control",
-    0x0600: "splitter",
-    0x0601: "ethernet_node",
-    0x0602: "merge",
-    0x0603: "datapatch",
-    0x0604: "wireless_link",
-    0x0701: "protocol_convertor",
-    0x0702: "analog_demultiplex",
-    0x0703: "analog_multiplex",
-    0x0704: "switch_panel",
-    0x0800: "router",
-    0x0801: "fader",
-    0x0802: "mixer",
-    0x0900: "changeover_manual",
-    0x0901: "changeover_auto",
-    0x0902: "test",
-    0x0A00: "gfi_rcd",
-    0x0A01: "battery",
-    0x0A02: "controllable_breaker",
-    0x7FFF: "other",
-}
+STATUS_TYPES = _numbered("""
+    00 none get_last_message advisory warning error
+    12 advisory_cleared warning_cleared error_cleared
+""")
 
-SENSOR_TYPES: Mapping[int, str] = {
-    0x00: "temperature",
-    0x01: "voltage",
-    0x02: "current",
-    0x03: "frequency",
-    0x04: "resistance",
-    0x05: "power",
-    0x06: "mass",
-    0x07: "length",
-    0x08: "area",
-    0x09: "volume",
-    0x0A: "density",
-    0x0B: "velocity",
-    0x0C: "acceleration",
-    0x0D: "force",
-    0x0E: "energy",
-    0x0F: "pressure",
-    0x10: "time",
-    0x11: "angle",
-    0x12: "position_x",
-    0x13: "position_y",
-    0x14: "position_z",
-    0x15: "angular_velocity",
-    0x16: "luminous_intensity",
-    0x17: "luminous_flux",
-    0x18: "illuminance",
-    0x19: "chrominance_red",
-    0x1A: "chrominance_green",
-    0x1B: "chrominance_blue",
-    0x1C: "contacts",
-    0x1D: "memory",
-    0x1E: "items",
-    0x1F: "humidity",
-    0x20: "counter_16bit",
-    0x7F: "other",
-}
+STATUS_IDS = _numbered("""
+    01 cal_fail sens_not_found sens_always_on feedback_error index_error
+    11 lamp_doused lamp_strike lamp_access_open lamp_always_on
+    21 overtemp undertemp sens_out_range
+    31 overvoltage_phase undervoltage_phase overcurrent undercurrent phase phase_error amps volts
+    41 dimslot_occupied breaker_trip watts dim_failure dim_panic load_failure
+    50 ready not_ready low_fluid
+    60 eeprom_error ram_error fpga_error
+    70 proxy_broadcast_dropped asc_rxok asc_dropped
+    80 dmxnscnone dmxnscloss dmxnscerror dmxnsc_ok
+""")
 
-UNITS: Mapping[int, str] = {
-    0x00: "none",
-    0x01: "centigrade",
-    0x02: "volts_dc",
-    0x03: "volts_ac_peak",
-    0x04: "volts_ac_rms",
-    0x05: "ampere_dc",
-    0x06: "ampere_ac_peak",
-    0x07: "ampere_ac_rms",
-    0x08: "hertz",
-    0x09: "ohm",
-    0x0A: "watt",
-    0x0B: "kilogram",
-    0x0C: "meters",
-    0x0D: "meters_squared",
-    0x0E: "meters_cubed",
-    0x0F: "kilogrammes_per_meter_cubed",
-    0x10: "meters_per_second",
-    0x11: "meters_per_second_squared",
-    0x12: "newton",
-    0x13: "joule",
-    0x14: "pascal",
-    0x15: "second",
-    0x16: "degree",
-    0x17: "steradian",
-    0x18: "candela",
-    0x19: "lumen",
-    0x1A: "lux",
-    0x1B: "ire",
-    0x1C: "byte",
-}
+PRODUCT_CATEGORIES = _numbered("""
+    0000 not_declared
+    0100 fixture fixture_fixed fixture_moving_yoke fixture_moving_mirror
+    01ff fixture_other
+    0200 fixture_accessory fixture_accessory_color fixture_accessory_yoke fixture_accessory_mirror
+    0204 fixture_accessory_effect fixture_accessory_beam
+    02ff fixture_accessory_other
+    0300 projector projector_fixed projector_moving_yoke projector_moving_mirror
+    03ff projector_other
+    0400 atmospheric atmospheric_effect atmospheric_pyro
+    04ff atmospheric_other
+    0500 dimmer dimmer_ac_incandescent dimmer_ac_fluorescent dimmer_ac_coldcathode dimmer_ac_nondim
+    0505 dimmer_ac_elv dimmer_ac_other dimmer_dc_level dimmer_dc_pwm dimmer_cs_led
+    05ff dimmer_other
+    0600 power power_control power_source
+    06ff power_other
+    0700 scenic scenic_drive
+    07ff scenic_other
+    0800 data data_distribution data_conversion
+    08ff data_other
+    0900 av av_audio av_video
+    09ff av_other
+    0a00 monitor monitor_aclinepower monitor_dcpower monitor_environmental
+    0aff monitor_other
+    7000 control control_controller control_backupdevice
+    70ff control_other
+    7100 test test_equipment
+    71ff test_equipment_other
+    7fff other
+""")
 
-PREFIXES: Mapping[int, str] = {
-    0x00: "none",
-    0x01: "deci",
-    0x02: "centi",
-    0x03: "milli",
-    0x04: "micro",
-    0x05: "nano",
-    0x06: "pico",
-    0x07: "fempto",
-    0x08: "atto",
-    0x09: "zepto",
-    0x0A: "yocto",
-    0x11: "deca",
-    0x12: "hecto",
-    0x13: "kilo",
-    0x14: "mega",
-    0x15: "giga",
-    0x16: "tera",
-    0x17: "peta",
-    0x18: "exa",
-    0x19: "zetta",
-    0x1A: "yotta",
-}
+PRODUCT_DETAILS = _numbered("""
+    0000 not_declared arc metal_halide incandescent led fluorescent coldcathode electroluminescent
+    0008 laser flashtube
+    0100 colorscroller colorwheel colorchange iris_douser dimming_shutter profile_shutter
+    0106 barndoor_shutter effects_disc gobo_rotator
+    0200 video slide film oilwheel lcdgate
+    0300 fogger_glycol fogger_mineraloil fogger_water co2 ln2 bubble flame_propane flame_other
+    0308 olefactory_stimulator snow water_jet wind confetti hazard
+    0400 phase_control reversephase_control sine pwm dc hfballast hfhv_neonballast hfhv_el
+    0408 mhr_ballast bitangle_modulation frequency_modulation highfrequency_12v relay_mechanical
+    040d relay_electronic switch_electronic contactor
+    0500 mirrorball_rotator other_rotator kabuki_drop curtain lineset motor_control damper_control
+    0600 splitter ethernet_node merge datapatch wireless_link
+    0701 protocol_convertor analog_demultiplex analog_multiplex switch_panel
+    0800 router fader mixer
+    0900 changeover_manual changeover_auto test
+    0a00 gfi_rcd battery controllable_breaker
+    7fff other
+""")
+
+SENSOR_TYPES = _numbered("""
+    00 temperature voltage current frequency resistance power mass length area volume density
+    0b velocity acceleration force energy pressure time angle position_x position_y position_z
+    15 angular_velocity luminous_intensity luminous_flux illuminance chrominance_red
+    1a chrominance_green chrominance_blue contacts memory items humidity counter_16bit
+    7f other
+""")
+
+UNITS = _numbered("""
+    00 none centigrade volts_dc volts_ac_peak volts_ac_rms ampere_dc ampere_ac_peak ampere_ac_rms
+    08 hertz ohm watt kilogram meters meters_squared meters_cubed kilogrammes_per_meter_cubed
+    10 meters_per_second meters_per_second_squared newton joule pascal second degree steradian
+    18 candela lumen lux ire byte
+""")
+
+PREFIXES = _numbered("""
+    00 none deci centi milli micro nano pico fempto atto zepto yocto
+    11 deca hecto kilo mega giga tera peta exa zetta yotta
+""")
 
 # The powers of ten that the prefixes mean.
 PREFIX_POWERS: Mapping[int, int] = {
@@ -328,77 +116,31 @@ PREFIX_POWERS: Mapping[int, int] = {
     0x11: 1, 0x12: 2, 0x13: 3, 0x14: 6, 0x15: 9, 0x16: 12, 0x17: 15, 0x18: 18, 0x19: 21, 0x1A: 24,
 }
 
-DATA_TYPES: Mapping[int, str] = {
-    0x00: "not_defined",
-    0x01: "bit_field",
-    0x02: "ascii",
-    0x03: "unsigned_byte",
-    0x04: "signed_byte",
-    0x05: "unsigned_word",
-    0x06: "signed_word",
-    0x07: "unsigned_dword",
-    0x08: "signed_dword",
-}
+DATA_TYPES = _numbered("""
+    00 not_defined bit_field ascii unsigned_byte signed_byte unsigned_word signed_word
+    07 unsigned_dword signed_dword
+""")
 
 COMMAND_CLASSES: Mapping[int, str] = {0x01: "get", 0x02: "set", 0x03: "get_set"}
 
-SLOT_TYPES: Mapping[int, str] = {
-    0x00: "primary",
-    0x01: "sec_fine",
-    0x02: "sec_timing",
-    0x03: "sec_speed",
-    0x04: "sec_control",
-    0x05: "sec_index",
-    0x06: "sec_rotation",
-    0x07: "sec_index_rotate",
-    0xFF: "sec_undefined",
-}
+SLOT_TYPES = _numbered("""
+    00 primary sec_fine sec_timing sec_speed sec_control sec_index sec_rotation sec_index_rotate
+    ff sec_undefined
+""")
 
-SLOT_IDS: Mapping[int, str] = {
-    0x0001: "intensity",
-    0x0002: "intensity_master",
-    0x0101: "pan",
-    0x0102: "tilt",
-    0x0201: "color_wheel",
-    0x0202: "color_sub_cyan",
-    0x0203: "color_sub_yellow",
-    0x0204: "color_sub_magenta",
-    0x0205: "color_add_red",
-    0x0206: "color_add_green",
-    0x0207: "color_add_blue",
-    0x0208: "color_correction",
-    0x0209: "color_scroll",
-    0x0210: "color_semaphore",
-    0x0211: "color_add_amber",
-    0x0212: "color_add_white",
-    0x0213: "color_add_warm_white",
-    0x0214: "color_add_cool_white",
-    0x0215: "color_sub_uv",
-    0x0216: "color_hue",
-    0x0217: "color_saturation",
-    0x0301: "static_gobo_wheel",
-    0x0302: "roto_gobo_wheel",
-    0x0303: "prism_wheel",
-    0x0304: "effects_wheel",
-    0x0401: "beam_size_iris",
-    0x0402: "edge",
-    0x0403: "frost",
-    0x0404: "strobe",
-    0x0405: "zoom",
-    0x0406: "framing_shutter",
-    0x0407: "shutter_rotate",
-    0x0408: "douser",
-    0x0409: "barn_door",
-    0x0501: "lamp_control",
-    0x0502: "fixture_control",
-    0x0503: "fixture_speed",
-    0x0504: "macro",
-    0x0505: "power_control",
-    0x0506: "fan_control",
-    0x0507: "heater_control",
-    0x0508: "fountain_control",
-    0xFFFF: "undefined",
-}
+SLOT_IDS = _numbered("""
+    0001 intensity intensity_master
+    0101 pan tilt
+    0201 color_wheel color_sub_cyan color_sub_yellow color_sub_magenta color_add_red color_add_green
+    0207 color_add_blue color_correction color_scroll
+    0210 color_semaphore color_add_amber color_add_white color_add_warm_white color_add_cool_white
+    0215 color_sub_uv color_hue color_saturation
+    0301 static_gobo_wheel roto_gobo_wheel prism_wheel effects_wheel
+    0401 beam_size_iris edge frost strobe zoom framing_shutter shutter_rotate douser barn_door
+    0501 lamp_control fixture_control fixture_speed macro power_control fan_control heater_control
+    0508 fountain_control
+    ffff undefined
+""")
 
 LAMP_STATES: Mapping[int, str] = {
     0x00: "off", 0x01: "on", 0x02: "strike", 0x03: "standby", 0x04: "not_present", 0x7F: "error",
