@@ -44,9 +44,7 @@ SCENE = "1234:00000001 0002 1234:00000005\nframes 10\n"
 FULL_SCENE = "1234:00000001 0002 1234:00000005\nframes 11\n"
 
 # What is printed of the session: the GET's two parts, the SET's answer without data, and the device.
-SESSION = (
-    "client 0 request 0: 0 00 0102\nclient 0 request 1: 0 00 -\nclient 0 discovery 0: ok 1234:00000001\n"
-)
+SESSION = "client 0 request 0: 0 00 0102\nclient 0 request 1: 0 00 -\nclient 0 discovery 0: ok 1234:00000001\n"
 
 # How many calls the session's client makes.
 CALLS = 3
@@ -55,29 +53,14 @@ CALLS = 3
 def scene_text(change: Change = SAME) -> str:
     """A scene of one device, with each key that there is."""
     parameter = object_text("parameter", [("pid", '"0060"'), ("parts", '["01","02"]')], change)
-    device = object_text(
-        "device",
-        [
-            ("uid", '"1234:00000001"'),
-            ("preamble", "3"),
-            ("params", f"[{parameter}]"),
-            ("control", '"0002"'),
-            ("binding", '"1234:00000005"'),
-            ("from", "0"),
-            ("until", "1000"),
-        ],
-        change,
-    )
-    scene = [
-        ("source", '"7a70:00000100"'),
-        ("devices", f"[{device}]"),
-        ("collisions", '["or"]'),
-        ("losses", "[3]"),
-        ("fails", "[900]"),
-        ("known", '["1234:00000001"]'),
-        ("budget", "400"),
-    ]
-    return object_text("scene", scene, change)
+    device = object_text("device", [
+        ("uid", '"1234:00000001"'), ("preamble", "3"), ("params", f"[{parameter}]"), ("control", '"0002"'),
+        ("binding", '"1234:00000005"'), ("from", "0"), ("until", "1000"),
+    ], change)
+    return object_text("scene", [
+        ("source", '"7a70:00000100"'), ("devices", f"[{device}]"), ("collisions", '["or"]'), ("losses", "[3]"),
+        ("fails", "[900]"), ("known", '["1234:00000001"]'), ("budget", "400"),
+    ], change)
 
 
 def session_text(change: Change = SAME) -> str:
@@ -86,15 +69,10 @@ def session_text(change: Change = SAME) -> str:
     A run goes before requests, so the exchanges come in this order, whichever thread comes first.
     """
     client = object_text("client", [("places", "2"), ("calls", calls_text(change))], change)
-    session = [
-        ("scene", scene_text(change)),
-        ("clients", f"[{client}]"),
-        ("ring", "2"),
-        ("search", '"quick"'),
-        ("log", "1000"),
-        ("turns", "100000000"),
-    ]
-    return object_text("session", session, change)
+    return object_text("session", [
+        ("scene", scene_text(change)), ("clients", f"[{client}]"), ("ring", "2"), ("search", '"quick"'),
+        ("log", "1000"), ("turns", "100000000"),
+    ], change)
 
 
 def calls_text(change: Change) -> str:
@@ -128,10 +106,5 @@ def changed(fields: Sequence[Field], change: Change) -> List[Field]:
 def edited(field: Field, change: Change) -> List[Field]:
     """A field with the edit: once or twice or not at all."""
     other = (field[0], change.value)
-    edits = {
-        Edit.OMITS: [],
-        Edit.HAS: [other],
-        Edit.BEGINS: [other, field],
-        Edit.ENDS: [field, other],
-    }
+    edits = {Edit.OMITS: [], Edit.HAS: [other], Edit.BEGINS: [other, field], Edit.ENDS: [field, other]}
     return edits.get(change.edit, [field])

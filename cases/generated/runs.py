@@ -19,12 +19,8 @@ from wurstlinen.lines.packets import Packet, encode_branch_reply  # noqa: E402
 from wurstlinen.lines.uids import ALL_DEVICES, uid_text  # noqa: E402
 
 UIDS: Dict[str, int] = {
-    "found": 0x123400000001,
-    "spare": 0x123400000008,
-    "liar": 0x123400000009,
-    "absent": 0x567800000009,
-    "new": 0x9ABC00000002,
-    "nobody": ALL_DEVICES,
+    "found": 0x123400000001, "spare": 0x123400000008, "liar": 0x123400000009, "absent": 0x567800000009,
+    "new": 0x9ABC00000002, "nobody": ALL_DEVICES,
 }
 LIAR = uid_text(UIDS["liar"])
 HALF = 0x800000000000
