@@ -499,7 +499,3 @@ def ctypes_library() -> str:
     """A library that isn't ours."""
     with open("/proc/self/maps", encoding="ascii") as file:
         return next(line.split()[-1] for line in file if "/libc" in line or "/libm" in line)
-
-
-if __name__ == "__main__":
-    unittest.main()

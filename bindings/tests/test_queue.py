@@ -565,7 +565,3 @@ class Logs(Case):
         page = session.drain()
         self.assertEqual((page.first, *page), (8, *ends))
         self.assertEqual(session.drain().first, 12)
-
-
-if __name__ == "__main__":
-    unittest.main()

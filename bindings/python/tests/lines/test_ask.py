@@ -2,7 +2,6 @@
 from __future__ import annotations
 
 import threading
-import unittest
 from typing import Any, List, Optional
 
 from asking import (
@@ -522,7 +521,3 @@ class Proved(Asks):
             self.check(second.ask(DEVICE, LABEL, line=line), b"Lamp")
             thread.join()
             self.assertIsInstance(first.next_completion(), Completion)
-
-
-if __name__ == "__main__":
-    unittest.main()

@@ -4,7 +4,6 @@ from __future__ import annotations
 import io
 import json
 import os
-import unittest
 from typing import Any, Dict, List
 from unittest import mock
 
@@ -202,7 +201,3 @@ class Logs(OneRig):
             self.assertEqual(self.run_command("fixtures", "--log", str(place / "log"))[2],
                              f"wurstlinen: {SLOW} asks for 0.3 s\n")
             self.assertEqual(len((place / "log").read_text().splitlines()), 79)
-
-
-if __name__ == "__main__":
-    unittest.main()

@@ -249,7 +249,3 @@ class Queues(TestCase):
             asker = Asker(controller.join(1), Device(Queueing(3)), sleep=sleep)
             self.assertRaises(Closed, asker.get, DEVICE, Pid.DEVICE_LABEL)
             self.assertEqual(naps, [0.3])
-
-
-if __name__ == "__main__":
-    unittest.main()

@@ -11,7 +11,6 @@ import signal
 import subprocess
 import sys
 import threading
-import unittest
 from pathlib import Path
 from typing import Iterator, List, Optional, Tuple
 from unittest import mock
@@ -319,7 +318,3 @@ class WithTheLibrary(TestCase):
             result = run(*arguments, "--line", f"exec:{sys.executable} -c ''")
             self.assertEqual((result.returncode, result.stdout), (1, printed))
             self.assertRegex(result.stderr, "^wurstlinen: the far end")
-
-
-if __name__ == "__main__":
-    unittest.main()

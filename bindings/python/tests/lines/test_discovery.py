@@ -1,7 +1,6 @@
 """Discoveries and GETs through the driver and the emulated adapter, with and without losses."""
 from __future__ import annotations
 
-import unittest
 from typing import Dict, List, Sequence, Tuple
 
 from common import (
@@ -114,7 +113,3 @@ class Gets(TestCase):
             self.assertIn(answer, (wanted, TIMEOUT))
         self.assertIn(TIMEOUT, answers)
         self.assertLess(answers.count(TIMEOUT), len(answers))
-
-
-if __name__ == "__main__":
-    unittest.main()

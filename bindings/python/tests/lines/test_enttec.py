@@ -6,7 +6,6 @@ import random
 import signal
 import threading
 import time
-import unittest
 from typing import Dict, List, Tuple
 from unittest import mock
 
@@ -364,7 +363,3 @@ class Faults(TestCase):
                     driver.close()
                     with EnttecPro(str(path), directory, ANSWER_SECONDS) as other:
                         self.assertTrue(other.exchange(GET))
-
-
-if __name__ == "__main__":
-    unittest.main()

@@ -10,7 +10,6 @@ import signal
 import subprocess
 import sys
 import time
-import unittest
 from typing import Any, List, Optional
 from unittest import mock
 
@@ -560,7 +559,3 @@ class Processes(TestCase):
                     self.assertEqual(process.stderr.readline(), f"wurstlinen: {LEFT} asks for 30 s\n".encode())
                     process.send_signal(ending)
                     self.assertEqual((process.stderr.read(), process.wait(10)), (b"", 130))
-
-
-if __name__ == "__main__":
-    unittest.main()

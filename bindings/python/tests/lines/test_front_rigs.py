@@ -7,7 +7,6 @@ import io
 import json
 import os
 import re
-import unittest
 from pathlib import Path
 from typing import Any, Callable, Dict, Iterator, List, Set, Tuple
 from unittest import mock
@@ -573,7 +572,3 @@ class Identify(OneRig):
             system.stdin.readline.side_effect = KeyboardInterrupt
             status, _, _ = self.run_command("identify", "--each")
         self.assertEqual((status, [state for _, state in self.states()]), (130, ["01", "00"]))
-
-
-if __name__ == "__main__":
-    unittest.main()

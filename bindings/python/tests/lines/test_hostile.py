@@ -5,7 +5,6 @@ import gc
 import os
 import threading
 import time
-import unittest
 from concurrent.futures import ThreadPoolExecutor
 from pathlib import Path
 from typing import Any, Callable, Iterable, List
@@ -149,7 +148,3 @@ class Recovery(HostileCase):
             return b"failed"
         self.assertTrue(reply or frame is not BRANCH)
         return reply
-
-
-if __name__ == "__main__":
-    unittest.main()

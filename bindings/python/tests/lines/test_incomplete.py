@@ -6,7 +6,6 @@ from __future__ import annotations
 
 import contextlib
 import json
-import unittest
 from typing import Any, Iterator, List, Sequence, Union
 from unittest import mock
 
@@ -266,7 +265,3 @@ class Served(TestCase):
                 status, out, errors = called("get", "--raw", UID, "0082", "--line", line)
                 self.assertEqual((status, out), (1, ""))
                 self.assertIn(why, errors)
-
-
-if __name__ == "__main__":
-    unittest.main()

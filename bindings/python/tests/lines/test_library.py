@@ -258,7 +258,3 @@ class Gets(TestCase):
             first, second = client.next_completion(), client.next_completion()
         self.assertEqual((first.head.ack, first.data), (AckType.TIMER, b"\x00\x00"))
         self.assertEqual((second.head.pid, second.data), (0x0082, b"Lamp"))
-
-
-if __name__ == "__main__":
-    unittest.main()

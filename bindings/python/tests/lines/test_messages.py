@@ -2,7 +2,6 @@
 from __future__ import annotations
 
 import random
-import unittest
 from typing import List
 
 from common import TestCase
@@ -103,7 +102,3 @@ class Messages(TestCase):
         reader = MessageReader()
         for _ in range(2000):
             reader.feed(bytes(chance.choice((0x7E, 0xE7, 0, 1, 5, 12)) for _ in range(chance.randrange(20))))
-
-
-if __name__ == "__main__":
-    unittest.main()

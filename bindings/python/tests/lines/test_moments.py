@@ -4,7 +4,6 @@ from __future__ import annotations
 import itertools
 import sys
 import threading
-import unittest
 from functools import partial
 from typing import Any, Callable, List, Optional, Sequence, Tuple, Union
 
@@ -464,7 +463,3 @@ class Asks(LongTestCase):
             scene.finish()
 
         Trial(lambda: Scene(get, serve, lambda scene: scene.session.pause()), ask, again, Scene.end).run()
-
-
-if __name__ == "__main__":
-    unittest.main()

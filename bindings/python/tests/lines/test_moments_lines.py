@@ -7,7 +7,6 @@ import io
 import os
 import sys
 import threading
-import unittest
 from pathlib import Path
 from typing import Any, Iterator, List, Tuple
 
@@ -222,7 +221,3 @@ class Rigs(LongTestCase):
             file.write_text('{"source": "7a70:00000100", "devices": [{"uid": "1234:00000001"}]}')
             trial = Trial(lambda: file, Rig, lambda path, _: self.assertEqual(len(Rig(path).fixtures), 1))
             self.assertGreater(trial.run(), 20)
-
-
-if __name__ == "__main__":
-    unittest.main()

@@ -4,7 +4,6 @@ from __future__ import annotations
 import contextlib
 import threading
 import time
-import unittest
 from typing import Any, Callable, List, Tuple
 
 from common import LongTestCase, needs_library
@@ -142,7 +141,3 @@ class Calls(LongTestCase):
                 settle(made, before)
 
             self.assertGreater(Trial(lambda: None, whole, check).run(), 50)
-
-
-if __name__ == "__main__":
-    unittest.main()

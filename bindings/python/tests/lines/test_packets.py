@@ -2,7 +2,6 @@
 from __future__ import annotations
 
 import random
-import unittest
 
 from common import TestCase
 from wurstlinen.lines.packets import (
@@ -65,7 +64,3 @@ class Packets(TestCase):
         self.assertTrue(addresses(0x1234FFFFFFFF, 0x123400000001))
         self.assertFalse(addresses(0x1235FFFFFFFF, 0x123400000001))
         self.assertFalse(addresses(0x123400000002, 0x123400000001))
-
-
-if __name__ == "__main__":
-    unittest.main()

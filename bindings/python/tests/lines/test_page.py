@@ -12,7 +12,6 @@ import stat
 import subprocess
 import sys
 import time
-import unittest
 import zlib
 from dataclasses import replace
 from pathlib import Path
@@ -592,7 +591,3 @@ class Command(TestCase):
         found = self.called("log", "--page", "page.html", encoding="utf-8", errors="replace")
         self.assertEqual(found, (1, "\ufffd\x00 exchange 1\n", ""))
         self.assert_nothing()
-
-
-if __name__ == "__main__":
-    unittest.main()

@@ -1,7 +1,6 @@
 """What the page of explain takes from the JSON of the proved program."""
 from __future__ import annotations
 
-import unittest
 from typing import Any, Dict
 
 from common import TestCase
@@ -111,7 +110,3 @@ class Findings(TestCase):
                      b'{"passing":[{"judgement":"passing","sentence":"x","uid":"1"}],"runs":[]}'):
             with self.assertRaises(page_findings.NoFindings):
                 page_findings.findings_in(text)
-
-
-if __name__ == "__main__":
-    unittest.main()

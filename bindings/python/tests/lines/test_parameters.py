@@ -412,7 +412,3 @@ version: 1
             data = text if isinstance(text, bytes) else text.encode()
             (Path(folder) / ola.MANUFACTURERS_FILE).write_bytes(data)
             return ola.manufacturers(Path(folder))
-
-
-if __name__ == "__main__":
-    unittest.main()

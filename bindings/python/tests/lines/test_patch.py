@@ -2,7 +2,6 @@
 from __future__ import annotations
 
 import json
-import unittest
 from pathlib import Path
 from typing import Any, Dict
 from unittest import mock
@@ -230,7 +229,3 @@ class Patched(TestCase):
         with folder() as place, mock.patch("os.replace", side_effect=OSError(28, "No space left on device")):
             end, addresses = self.patched(place, "--from", "2")
             self.assertEqual((end[0], addresses), (1, ["1", "8", "100"]))
-
-
-if __name__ == "__main__":
-    unittest.main()

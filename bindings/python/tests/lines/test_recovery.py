@@ -2,7 +2,6 @@
 from __future__ import annotations
 
 import time
-import unittest
 
 from common import ANSWER_SECONDS, LongTestCase, TestCase, adapter, folder, one, random_scene, scene, uids_of
 from script import BRANCH, END, GET, LAMP, REPLY, UNMUTE, Script, received
@@ -172,7 +171,3 @@ class Resynchronising(TestCase):
             self.assertEqual(driver.exchange(GET), REPLY)
             self.assertLess(time.monotonic() - began, 1.5)
         self.assertEqual([message.label for message in script.sent[3:]], [7, 10, 10, 7])
-
-
-if __name__ == "__main__":
-    unittest.main()

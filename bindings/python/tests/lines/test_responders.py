@@ -164,7 +164,3 @@ class Responders(TestCase):
             reading = decode(version, False, asker.get(DUMMY, version.number).completion.data)
         self.assertEqual(reading.misfit, "")
         self.assertRegex(reading.lines[0], r"[0-9]+\.[0-9]+")
-
-
-if __name__ == "__main__":
-    unittest.main()

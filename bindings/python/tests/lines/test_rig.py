@@ -2,7 +2,6 @@
 from __future__ import annotations
 
 import random
-import unittest
 from typing import Any, Dict, List, Tuple
 
 from common import (
@@ -468,7 +467,3 @@ class Files(TestCase):
         for name in ("no_json.json", "no_scene.json", "two_programs.json"):
             with self.assertRaises(SceneFault):
                 Rig(ROOT / "examples" / name)
-
-
-if __name__ == "__main__":
-    unittest.main()

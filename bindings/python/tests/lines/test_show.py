@@ -2,7 +2,6 @@
 from __future__ import annotations
 
 import json
-import unittest
 from typing import Any, Dict, List
 from unittest import mock
 
@@ -254,7 +253,3 @@ class InPython(TestCase):
             self.assertIsNone(client.ask("1234:00000009", Pid.DEVICE_INFO, line=rig).values)
             with self.assertRaisesRegex(ValueError, "did you mean device_label"):
                 client.ask(LEFT, "device_lable", line=rig)
-
-
-if __name__ == "__main__":
-    unittest.main()

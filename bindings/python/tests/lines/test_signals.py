@@ -7,7 +7,6 @@ import os
 import signal
 import sys
 import termios
-import unittest
 import weakref
 from typing import Any, Callable, List, Optional, Tuple
 from unittest import mock
@@ -270,7 +269,3 @@ class Signals(LongTestCase):
             self.assertTrue((status and text == OLD) or text.endswith("</html>\n"), text[-20:])
 
         self.each(["explain", str(log), "--page", str(self.file)], begin, check)
-
-
-if __name__ == "__main__":
-    unittest.main()

@@ -2,7 +2,6 @@
 from __future__ import annotations
 
 import ast
-import unittest
 from pathlib import Path
 from typing import Iterator, List, Tuple, Union
 
@@ -83,7 +82,3 @@ class Syntax(TestCase):
                 self.assertIsNotNone(function.returns, where)
                 if not function.name.startswith("_") and function.name not in ("read", "handler", "open_frames"):
                     self.assertTrue(ast.get_docstring(function), where)
-
-
-if __name__ == "__main__":
-    unittest.main()

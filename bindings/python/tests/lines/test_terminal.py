@@ -8,7 +8,6 @@ import multiprocessing
 import os
 import subprocess
 import sys
-import unittest
 from pathlib import Path
 from typing import Any, List
 from unittest import mock
@@ -340,7 +339,3 @@ class Open:
 
     def __exit__(self, *why: object) -> None:
         self._terminal.close()
-
-
-if __name__ == "__main__":
-    unittest.main()

@@ -8,7 +8,6 @@ import select
 import sys
 import threading
 import time
-import unittest
 from typing import BinaryIO, Callable, List, Optional, Set, Tuple
 from unittest import mock
 
@@ -553,7 +552,3 @@ class Openings(TestCase):
             open_line("exec:/no/such/program")
         with self.assertRaises(OSError):
             open_line("rig:/no/such/file")
-
-
-if __name__ == "__main__":
-    unittest.main()

@@ -9,7 +9,6 @@ import os
 import subprocess
 import sys
 import time
-import unittest
 from pathlib import Path
 from typing import Any, Dict, List, Tuple
 from unittest import mock
@@ -336,7 +335,3 @@ class Words(TestCase):
             with mock.patch.object(importlib.import_module("wurstlinen.tool.main"), "become", return_value=7):
                 for name in (str(place / "fifo"), "/nowhere.log"):
                     self.assertEqual(of_tool("explain", name, WURSTLINEN_PROGRAM=str(place / "program")), (7, "", ""))
-
-
-if __name__ == "__main__":
-    unittest.main()

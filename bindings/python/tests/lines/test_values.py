@@ -427,7 +427,3 @@ class Descriptions(TestCase):
         for size in range(20):
             with self.assertRaises(Misfit):
                 described(self.head(1, 3)[:size])
-
-
-if __name__ == "__main__":
-    unittest.main()
