@@ -4,18 +4,9 @@ from __future__ import annotations
 import re
 from typing import Dict, Iterator, Optional, Tuple
 
-FAULTS: Dict[bytes, int] = {
-    b"fault: hex\n": 1,
-    b"fault: uid\n": 1,
-    b"fault: file\n": 1,
-    b"fault: json\n": 1,
-    b"fault: discovery command\n": 1,
-    b"fault: scene\n": 1,
-    b"fault: log\n": 1,
-    b"fault: turns\n": 1,
-    b"fault: memory\n": 1,
-    b"fault: command line\n": 2,
-}
+FAULTS: Dict[bytes, int] = {f"fault: {name}\n".encode(): status for name, status in (
+    ("hex", 1), ("uid", 1), ("file", 1), ("json", 1), ("discovery command", 1), ("scene", 1), ("log", 1), ("turns", 1),
+    ("memory", 1), ("command line", 2))}
 
 # The statuses of explain: no rule was broken, or one was.
 FOLLOWED, BROKEN = 0, 3

@@ -15,11 +15,11 @@ NO_UID = "fault: uid\n"
 NO_SCENE = "fault: scene\n"
 
 # Texts that aren't bytes: of an odd number of digits, or with other characters.
-NO_BYTES = ("f", "fff", "-", "0x00", "fe fe", " fe", "fe\n", "+f", "fefg", "gg", "\u00e9", "\uff46\uff45", "f\u00e9f",
-            "\U0010ffff")
+NO_BYTES = ("f", "fff", "-", "0x00", "fe fe", " fe", "fe\n", "+f", "fefg", "gg", "\u00e9", "\uff46\uff45",
+            "f\u00e9f", "\U0010ffff")
 # Texts that aren't UIDs: of another length, without the colon, or with other characters.
-NO_UIDS = ("", "-", "7a70:0000001", "7a70:000000001", "7a70-00000001", "7a700000:0001", "7a7:000000001", "7a70:0000000g",
-           "g a70:0000001", "7a70:+0000001", "7a70: 0000001", "7a70:0000001\n", "7a70:000000\u00e9",
+NO_UIDS = ("", "-", "7a70:0000001", "7a70:000000001", "7a70-00000001", "7a700000:0001", "7a7:000000001",
+           "7a70:0000000g", "g a70:0000001", "7a70:+0000001", "7a70: 0000001", "7a70:0000001\n", "7a70:000000\u00e9",
            "\u00e970:00000001", "7a70:\uff1000000")
 # Arguments, between bars, that ask for something after all, and ones with `--` and `-`; and what is printed. A scene is
 # no session, and no file has an empty name.
@@ -97,7 +97,8 @@ ARGUMENTS = (
 # The first of two thousand arguments, and the others.
 MANY = (
     ("decode", "decode"), ("decode", "fe"), ("encode", "7a70:00000001"), ("discover", "--quick"), ("discover", "f"),
-    ("discover", "--"), ("run", "--port"), ("run", "--port=rings"), ("help", "help"), ("", ""), ("-", "-"), ("--", "--"),
+    ("discover", "--"), ("run", "--port"), ("run", "--port=rings"), ("help", "help"), ("", ""), ("-", "-"),
+    ("--", "--"),
 )
 # The scene has each name that one of these arguments may give to a file.
 NAMES = sorted({"f", "--port=locked", *ARGUMENTS} - {""})

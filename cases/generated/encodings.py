@@ -9,18 +9,8 @@ from .objects import FULL_SCENE, SESSION, Change, Edit, scene_text, session_text
 
 # Bytes that aren't UTF-8: single ones, bytes after too few others, overlong ones, surrogates, and beyond the greatest.
 NO_TEXTS = (
-    b"\x80",
-    b"\xbf",
-    b"\xff",
-    b"\xfe",
-    b"\xc3",
-    b"\xe2\x82",
-    b"\xf0\x9f\x98",
-    b"\xc0\x80",
-    b"\xe0\x80\xaf",
-    b"\xed\xa0\x80",
-    b"\xf4\x90\x80\x80",
-    b"\xf8\x88\x80\x80\x80",
+    b"\x80", b"\xbf", b"\xff", b"\xfe", b"\xc3", b"\xe2\x82", b"\xf0\x9f\x98", b"\xc0\x80", b"\xe0\x80\xaf",
+    b"\xed\xa0\x80", b"\xf4\x90\x80\x80", b"\xf8\x88\x80\x80\x80",
 )
 
 # Where they are, at the tilde, doesn't matter: in an unknown key or its value, between values, before or after all.

@@ -19,26 +19,16 @@ CLIENTS: Nest = ('{"clients":[', "", "]}")
 # How deep an unknown key's value may be. The device is in a list of the scene, and its parameter in a list of the
 # device; the scene is in the session, the client in a list of the session, and a call in a list of the client.
 SCENES = (
-    ("scene", LISTS, 126),
-    ("device", LISTS, 124),
-    ("parameter", LISTS, 122),
-    ("scene", OBJECTS, 126),
+    ("scene", LISTS, 126), ("device", LISTS, 124), ("parameter", LISTS, 122), ("scene", OBJECTS, 126),
     ("scene", BOTH, 63),
 )
 SESSIONS = (("session", 126), ("scene", 125), ("client", 124), ("get", 122))
 
 # Files that are this deep. One that is a list is no scene. Very deep ones have no ends, or all of them.
 FILES = (
-    (LISTS, 1, NO_SCENE),
-    (LISTS, 127, NO_SCENE),
-    (LISTS, 128, NO_JSON),
-    (LISTS, 100_000, NO_JSON),
-    (OPEN_LISTS, 1, NO_JSON),
-    (OPEN_LISTS, 127, NO_JSON),
-    (OPEN_LISTS, 100_000, NO_JSON),
-    (OPEN_LISTS, 1_048_576, NO_JSON),
-    (OBJECTS, 100_000, NO_JSON),
-    (CLIENTS, 50_000, NO_JSON),
+    (LISTS, 1, NO_SCENE), (LISTS, 127, NO_SCENE), (LISTS, 128, NO_JSON), (LISTS, 100_000, NO_JSON),
+    (OPEN_LISTS, 1, NO_JSON), (OPEN_LISTS, 127, NO_JSON), (OPEN_LISTS, 100_000, NO_JSON),
+    (OPEN_LISTS, 1_048_576, NO_JSON), (OBJECTS, 100_000, NO_JSON), (CLIENTS, 50_000, NO_JSON),
 )
 
 
