@@ -1,5 +1,5 @@
 //! How the worker moves outcomes to a client's ring.
-ghost use Rattle.std.specs.Prelude.{◌≡◌, ◌≢◌, Some};
+ghost use Rattle.std.specs.Prelude.{◌≡◌, Some};
 ghost use Rattle.rdm_log.specs.declared.outcome.OutcomeKind.TheVariants as kinds;
 ghost use Rattle.rdm_log.specs.promises.Outcomes.{oldest_kind};
 ghost use Rattle.rdm_lanes.specs.Lines.{IsBetweenTurns};
@@ -40,10 +40,14 @@ fn move_outcome(alloc: Global, session: &mut Session, client: ClientId, lane: &m
     requires { MayMoveOne client.0 session.old lane.old }
     ensures { MovesOne client.0 session.old lane.old result session.new lane.new }
 {
-    move_completion(session, client, lane) || move_discovery(alloc, session, client, lane)
+    match session.oldest(client) {
+        None => false,
+        Some(Oldest::Request { .. }) => move_completion(session, client, lane),
+        Some(Oldest::Discovery { .. }) => move_discovery(alloc, session, client, lane),
+    }
 }
 
-// Moves the client's oldest outcome, if it is a request's. No device set is moved with it.
+// Moves a request's outcome. No device set is moved with it.
 #[tactic(auto, using(crate::proofs::MovingLemmas::moves_nothing))]
 fn move_completion(session: &mut Session, client: ClientId, lane: &mut Lane) -> bool
     requires { MayMoveOne client.0 session.old lane.old }
@@ -61,18 +65,15 @@ fn move_completion(session: &mut Session, client: ClientId, lane: &mut Lane) -> 
     true
 }
 
-// Moves the client's oldest outcome, if it is a discovery's. A box, which is allocated first, is exchanged for the one
-// with its set. It isn't inlined, so that a turn without a discovery has no set in its frame.
+// Moves a discovery's outcome. A box, which is allocated first, is exchanged for the one with its set. It isn't
+// inlined, so that a turn without a discovery has no set in its frame.
 #[inline(never)]
 #[tactic(auto, using(crate::proofs::MovingLemmas::moves_nothing))]
 fn move_discovery(alloc: Global, session: &mut Session, client: ClientId, lane: &mut Lane) -> bool
     requires may { MayMoveOne client.0 session.old lane.old }
-    requires other { oldest_kind session.old.opening session.old.entries client.0 ≢ Some kinds.Request }
+    requires oldest { oldest_kind session.old.opening session.old.entries client.0 ≡ Some kinds.Discovery }
     ensures { MovesOne client.0 session.old lane.old result session.new lane.new }
 {
-    let Some(Oldest::Discovery { .. }) = session.oldest(client) else {
-        return false;
-    };
     let Ok(mut set) = Box::new(alloc, DeviceSet::new()) else {
         return false;
     };
