@@ -14,7 +14,7 @@ module _ {J B X C A : Type 0} {h : Ghosts J} where
   -- The end of a session with this set-up, on this line, whose log has this capacity. Its clients have these queue
   -- depths, and both rings of each have this many slots. `SessionOver` says what its log has, and `IsEnded` how the
   -- clients, the log and the views agree. The worker made at most this many turns, and all of them if it ended with
-  -- Turns. With no turns at all it ended like this. The log has at most as many exchanges as turns were made.
+  -- Turns. With no turns to make, it ended with Turns. The log has at most as many exchanges as turns were made.
   pub record IsSessionEnd (step : X → Exchange → X → Type 0) (setup : Setup) (room slots : ℕ) (places : List ℕ)
       (line : X) (turns : ℕ) (end : LanesEnd J B X C A h) : Type 0 where
     pub session : SessionOver step setup room places line end.line end.session

@@ -18,7 +18,8 @@
 //! - `join_client` adds up the queue depths of the clients, 16 at most, and reserves the memory of the client's rings
 //!   and sets. No later call allocates, except for the joined data of a request, and for what `answer` and `run`
 //!   return.
-//! - `is_idle`, and a [`Session`]'s test before a call whether its log is full, add up what each client has.
+//! - `is_idle` adds up what each client has. So does a [`Session`] before a call, if its log may be full: not if there
+//!   is room for all that clients could have.
 //! - The other calls take constant time. So does each entry of a [`Log`], whose memory is reserved when it is made.
 //! - A log's opening contains a set of devices, of 32 KB. It is filled when a log is made or cleared, when a session
 //!   begins, and when it continues with a new log.

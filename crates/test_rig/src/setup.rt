@@ -61,10 +61,7 @@ fn new_log(alloc: Global, free: usize) -> Result<Log, NoMemory>
 /// Whether the log is like a new one.
 pub fn is_blank(log: &Log) -> bool {
     let opening = log.opening();
-    log.entries().is_empty()
-        && opening.budget == 0
-        && opening.greatest == 0
-        && opening.next_run == 0
+    log.len_in_all() == 0 && opening.budget == 0 && opening.greatest == 0 && opening.next_run == 0
 }
 
 /// A GET of the parameter `0060` from `1234:00000001`, to its root, without data.
