@@ -4,7 +4,7 @@ use rdm_agent::Kind;
 use rdm_join::Status;
 use rdm_join::Status::{Completed, FailedToSend, Timeout};
 use rdm_locked::{Exchange, Ledger, Port};
-use rdm_log::Owner;
+use rdm_log::{Entry, Owner};
 use std::alloc::Global;
 use std::sync::Wait;
 use std::test::Fail;
@@ -51,6 +51,14 @@ macro_rules! part {
 // Entries of a log.
 macro_rules! entries {
     ($($entry:ident $(($($with:expr),*))?),* $(,)?) => { &[$(Said::$entry $(($($with),*))?),*] };
+}
+
+// Adds a text for each of these entries, with all that it has. None: out of memory.
+fn add_texts(alloc: Global, texts: &mut Vec<String>, entries: &[Entry]) -> Option<()> {
+    for entry in entries {
+        texts.push(format!(in alloc; "{entry:?}").ok()?).ok()?;
+    }
+    Some(())
 }
 
 mod client;

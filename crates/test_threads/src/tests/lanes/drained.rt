@@ -44,13 +44,14 @@ fn has_second_turn(page: &Page) -> bool {
     )
 }
 
-// The worker makes a turn over a line that fails, and its log is drained.
-fn turn<J: ViewHistory, R: Wait>(
+// The worker makes so many turns over a line that fails, and its log is drained.
+fn page<J: ViewHistory, R: Wait>(
     alloc: Global,
     worker: &mut ViewWorker<J, Shown<J>, &R>,
+    turns: u64,
 ) -> Result<Page, Fail> {
     let mut line = TapeLine::new(Vec::new(alloc));
-    if worker.work(alloc, &mut line, 1) != WorkerEnd::Turns {
+    if worker.work(alloc, &mut line, turns) != WorkerEnd::Turns {
         return Err(Fail::from("another end"));
     }
     match worker.drain(Vec::with_capacity(alloc, 20)?) {
@@ -59,15 +60,18 @@ fn turn<J: ViewHistory, R: Wait>(
     }
 }
 
-// The pages of two turns, after memory for no entry was refused.
+// The pages of so many turns each, after memory for no entry was refused.
 fn pages<J: ViewHistory, R: Wait>(
     alloc: Global,
     worker: &mut ViewWorker<J, Shown<J>, &R>,
+    turns: [u64; 2],
 ) -> Result<[Page; 2], Fail> {
     if worker.drain(Vec::new(alloc)).is_ok() {
         return Err(Fail::from("no memory was needed"));
     }
-    Ok([turn(alloc, worker)?, turn(alloc, worker)?])
+    let first = page(alloc, worker, turns[0])?;
+    let second = page(alloc, worker, turns[1])?;
+    Ok([first, second])
 }
 
 type Client<J> = RingClient<J, Note, AskNote>;
@@ -89,12 +93,13 @@ fn end_all<J: ViewHistory>(alloc: Global, clients: Vec<Client<J>>) {
     clients.destroy_empty();
 }
 
-// The pages of a worker with two clients, each of which has submitted a request.
+// The pages of so many turns each, of a worker with two clients, each of which has submitted a request.
 fn served<J: ViewHistory, R: Wait>(
     rt: &R,
     alloc: Global,
     history: BlankHistory,
     free: usize,
+    turns: [u64; 2],
 ) -> Result<[Page; 2], Fail>
     requires { book_of history ≡ J.book }
 {
@@ -108,14 +113,15 @@ fn served<J: ViewHistory, R: Wait>(
         mut worker,
     } = lanes;
     submit_each(clients.as_mut_slice());
-    let pages = pages(alloc, &mut worker);
+    let pages = pages(alloc, &mut worker, turns);
     end_all(alloc, clients);
     pages
 }
 
 #[test]
 fn pages_of_two_turns_follow_each_other(rt: HostRuntime) -> Result<(), Fail> {
-    let [first, second] = served::<Brand, _>(&rt, rt.alloc(), BlankHistory::new(), 100)?;
+    let new = BlankHistory::new();
+    let [first, second] = served::<Brand, _>(&rt, rt.alloc(), new, 100, [1, 1])?;
     assert!(rt; first.first == 0 && has_first_turn(&first));
     assert!(rt; second.first == 8 && has_second_turn(&second));
     Ok(())
@@ -125,8 +131,25 @@ fn pages_of_two_turns_follow_each_other(rt: HostRuntime) -> Result<(), Fail> {
 #[test]
 fn a_drain_lets_a_log_keep_its_entries(rt: HostRuntime) -> Result<(), Fail> {
     let new = BlankHistory::new();
-    let [first, second] = served::<Brand, _>(&rt, rt.alloc(), new, NOTHING_KEPT)?;
+    let [first, second] = served::<Brand, _>(&rt, rt.alloc(), new, NOTHING_KEPT, [1, 1])?;
     assert!(rt; first.first == 8 && first.entries.is_empty());
     assert!(rt; second.first == 8 && has_second_turn(&second));
+    Ok(())
+}
+
+// What the log says in all of both turns, as its two pages have it.
+fn texts<R: Wait>(rt: &R, alloc: Global, turns: [u64; 2]) -> Result<Vec<String>, Fail> {
+    let [first, second] = served::<Brand, R>(rt, alloc, BlankHistory::new(), 100, turns)?;
+    let mut texts = Vec::new(alloc);
+    add_texts(alloc, &mut texts, &first.entries).ok_or("no memory")?;
+    add_texts(alloc, &mut texts, &second.entries).ok_or("no memory")?;
+    Ok(texts)
+}
+
+#[test]
+fn two_pages_have_each_entry_of_one(rt: HostRuntime) -> Result<(), Fail> {
+    let whole = texts(&rt, rt.alloc(), [2, 0])?;
+    assert_eq!(rt; whole.len(), 12);
+    assert_eq!(rt; texts(&rt, rt.alloc(), [1, 1])?, whole);
     Ok(())
 }

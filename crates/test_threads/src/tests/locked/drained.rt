@@ -57,6 +57,8 @@ struct Played {
     stop: Stop,
     right: u64,
     pages: Vec<Page>,
+    // What the log says in all: a text for each entry of the pages, and of what it stores in the end.
+    texts: Vec<String>,
     exchanges: usize,
     // Whether it was ended without a share.
     too_early: bool,
@@ -68,33 +70,37 @@ struct Played {
 // Why a port wasn't finished, whether it was ended without a share, and its end with it.
 type Ends = (Option<FinishFault>, bool, Option<(u64, usize, u64)>);
 
-// Tries to finish the port and to end it without its share, and then ends it.
+// Tries to finish the port and to end it without its share, and then ends it. What its log stores then is added to
+// these texts.
 fn ends<L: Ledger>(
     alloc: Global,
     port: Port<L>,
     shares: Vec<CallShare<L>>,
     exchanges: &[Exchange],
+    texts: &mut Vec<String>,
 ) -> Ends
     requires { L.parts ≡ 17 }
 {
     let (fault, port, shares) = match port.finish(shares, exchanges) {
-        Ok(end) => return (None, false, Some(end_of(&end))),
+        Ok(end) => return (None, false, end_of(alloc, &end, texts)),
         Err(refused) => refused,
     };
     let port = match port.end(Vec::new(alloc)) {
-        Ok(end) => return (Some(fault), true, Some(end_of(&end))),
+        Ok(end) => return (Some(fault), true, end_of(alloc, &end, texts)),
         Err((port, _)) => port,
     };
     match port.end(shares) {
-        Ok(end) => (Some(fault), false, Some(end_of(&end))),
+        Ok(end) => (Some(fault), false, end_of(alloc, &end, texts)),
         Err(_) => (Some(fault), false, None),
     }
 }
 
-// The calls of clients, what the log stores, and how many entries it had.
-fn end_of(end: &SessionEnd) -> (u64, usize, u64) {
+// The calls of clients, how many entries the log stores, and how many it had. Those that it stores are added to these
+// texts. None: out of memory.
+fn end_of(alloc: Global, end: &SessionEnd, texts: &mut Vec<String>) -> Option<(u64, usize, u64)> {
     let log = end.session.log();
-    (end.calls, log.entries().len(), log.len_in_all())
+    add_texts(alloc, texts, log.entries())?;
+    Some((end.calls, log.entries().len(), log.len_in_all()))
 }
 
 // The worker beside a client, over a port with this log.
@@ -123,11 +129,16 @@ fn plays<L: Ledger + Send + Sync, R: Threads + Wait + Sync>(
     };
     let (stop, right, gone) = serve_clients(rt, alloc, &port, &[1], 2, None, line);
     let Gone { record, shares, .. } = gone;
-    let (refused, too_early, end) = ends(alloc, port, shares, &record);
+    let mut texts = Vec::new(alloc);
+    for page in pages.iter() {
+        add_texts(alloc, &mut texts, &page.entries).ok_or("no memory")?;
+    }
+    let (refused, too_early, end) = ends(alloc, port, shares, &record, &mut texts);
     Ok(Played {
         stop,
         right,
         pages,
+        texts,
         exchanges: record.len(),
         too_early,
         refused,
@@ -179,7 +190,7 @@ fn has_second(entries: &[Entry]) -> bool {
     )
 }
 
-// After the second page the log has Came, Finish and Collect.
+// After the second page the log has Came, Finish and Collect. All entries are those of a port that isn't drained.
 #[test]
 fn a_port_is_drained_in_each_exchange(rt: HostRuntime) -> Result<(), Fail> {
     let played = play(&rt, rt.alloc(), 100, true)?;
@@ -190,6 +201,7 @@ fn a_port_is_drained_in_each_exchange(rt: HostRuntime) -> Result<(), Fail> {
     };
     assert!(rt; first.first == 0 && has_first(&first.entries));
     assert!(rt; second.first == 3 && has_second(&second.entries));
+    assert_eq!(rt; played.texts, play(&rt, rt.alloc(), 100, false)?.texts);
     Ok(())
 }
 
