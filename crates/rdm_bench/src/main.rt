@@ -30,6 +30,7 @@ usage: rdm_bench SUBJECT SIZE ROUNDS
   controller      its requests without a log alone
   session         its requests with a log alone
   session_drained the same with a log that is drained
+  unkept          requests of one client, without an answer, with a log that keeps nothing
   answer          the same by Session::answer
   run             the same by Session::run
   ports           requests with a mutex and with ring buffers, while SIZE wait, 1 to 8
@@ -54,7 +55,7 @@ usage: rdm_bench SUBJECT SIZE ROUNDS
 ROUNDS: 1 to 1000; else how often each of the 21 samples repeats its work";
 
 // What `all` measures first. The other subjects are among these.
-const ALL: &str = "agent calls queue answer run ports port_discovery ring_discovery views";
+const ALL: &str = "agent calls queue unkept answer run ports port_discovery ring_discovery views";
 
 // What it measures then, with a hundred times as many requests: these, and those of `endless`.
 const SOAKS: &str = "soak_locked soak_rings";
@@ -121,6 +122,7 @@ fn most(subject: &str) -> usize {
         "calls" => 231,
         "agent" | "port_discovery" | "ring_discovery" | "views" => 1_024,
         "queue" | "controller" | "session" | "session_drained" | "answer" | "run" => 4_080,
+        "unkept" => 255,
         _ => 100_000,
     }
 }
@@ -173,6 +175,7 @@ fn time<R: Times + Wait>(bench: &Bench<R>, subject: &str) -> Option<()> {
         "controller" => queue::time_requests(bench, false, false),
         "session" => queue::time_requests(bench, true, false),
         "session_drained" => queue::time_drained(bench),
+        "unkept" => queue::time_unkept(bench),
         "answer" => queue::time_events(bench, false),
         "run" => queue::time_events(bench, true),
         "ports" => ports::time(bench),

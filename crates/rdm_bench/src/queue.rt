@@ -17,7 +17,7 @@ use rdm_log::{
 use rdm_queue::{Controller, Session};
 use rdm_wire::{DeviceSet, Frame};
 use std::alloc::Global;
-use test_rig::{ActResult, completion_told, ending_by, found_in, log, request};
+use test_rig::{ActResult, NOTHING_KEPT, completion_told, ending_by, found_in, log, request};
 
 // How many devices are on the line of discoveries.
 const DEVICES: usize = 16;
@@ -212,6 +212,19 @@ pub fn time_drained<R: Times>(bench: &Bench<R>) -> Option<()> {
     timing.drained_after = 100;
     let line = Replay::of_two_bytes(bench.alloc)?;
     let log = log(bench.alloc, page_room(100, bench.size)).ok()?;
+    let queue = Queue::Logged(session_over(bench.alloc, log, u8::MAX)?);
+    timing.perform(bench, &mut clients_of(bench.alloc, queue, line, false))
+}
+
+/// Times requests of one client, which nobody answers, of a session whose log keeps nothing.
+pub fn time_unkept<R: Times>(bench: &Bench<R>) -> Option<()> {
+    let mut timing = Timing::new("queue with unkept log, NextCompletion", 1, bench.size);
+    timing.bytes = 0;
+    let line = Replay {
+        replies: Vec::new(bench.alloc),
+        next: 0,
+    };
+    let log = log(bench.alloc, NOTHING_KEPT).ok()?;
     let queue = Queue::Logged(session_over(bench.alloc, log, u8::MAX)?);
     timing.perform(bench, &mut clients_of(bench.alloc, queue, line, false))
 }

@@ -108,6 +108,8 @@ pub struct Timing {
     pub work: &'static str,
     pub clients: u8,
     pub waiting: usize,
+    /// How many bytes of data an outcome has.
+    pub bytes: usize,
     pub discovery: Option<(u64, usize)>,
     /// How many turns there are between two drains of the log; 0: it isn't drained.
     pub drained_after: usize,
@@ -120,6 +122,7 @@ impl Timing {
             work,
             clients,
             waiting,
+            bytes: 2,
             discovery: None,
             drained_after: 0,
         }
@@ -167,7 +170,7 @@ impl<S: Served> Sample for Turns<'_, S> {
         let clients = self.clients.max(1);
         let submitter = self.turn.wrapping_add(self.timing.waiting) % clients;
         self.served.work(1)?;
-        holds(self.served.collect_bytes(self.turn % clients)? == 2)?;
+        holds(self.served.collect_bytes(self.turn % clients)? == self.timing.bytes)?;
         holds(self.served.submit(submitter, TAG)?)?;
         self.turn = self.turn.wrapping_add(1);
         if self.turn.checked_rem(self.timing.drained_after) == Some(0) {
