@@ -1,10 +1,12 @@
-"""Counts how discoveries end on simulated lines: `python3 searches.py SUBJECT SIZE ROUNDS`.
+"""Counts how discoveries end on simulated lines: `python3 searches.py [--all] [--quick] SUBJECT SIZE ROUNDS`.
 
 `frames` searches honest lines with SIZE devices, 1 to 1024, and each run has to find all of them. `noise` searches
 lines with bit errors and noise, and SIZE devices, 1 to 1000. `scenes` does so on lines that aren't honest. With `lies`
-one of a rig's SIZE fixtures lies, and with `pairs` two do. A row counts ROUNDS runs, 1 to 1000, and their frames. The
-number of a run is the seed of its devices and of what is wrong with its line, so the rows are the same each time. If a
-run ends as none may, it is named, and the status is 1.
+one of a rig's SIZE fixtures lies, and with `pairs` two do; with `noisy-lies` and `noisy-pairs` they do so on lines with
+losses, bit errors and noise. `--all` adds the spreads and levels that a subject leaves out, and `--quick` leaves out
+steady searches. A row counts ROUNDS runs, 1 to 1000, and their frames. The number of a run is the seed of its devices
+and of what is wrong with its line, so the rows are the same each time. If a run ends as none may, it is named, and the
+status is 1.
 WURSTLINEN_LIBRARY names the shared library.
 """
 from __future__ import annotations
@@ -37,6 +39,8 @@ NOISE = b"\xff"
 # What is wrong with a line: its name in rows, and its numbers or words there.
 Wrong = Tuple[Any, ...]
 SPREADS = ("Random", "Consecutive", "Close", "Block", "Makers")
+# Consecutive UIDs are a block, too.
+DRAWN = ("Random", "Block", "Close", "Makers")
 HONEST: List[Wrong] = [("Nothing",), ("Lost", 100), ("Lost", 20), ("Lost", 10), ("Lost", 5), ("Phantom", 10)]
 DISHONEST: List[Wrong] = [("Burst", 5), ("Burst", 10), ("Burst", 20), ("Noise", 1000), ("Noise", 10)]
 # A device that breaks the rules has the first UID, one in the middle, or the last.
@@ -45,10 +49,22 @@ ODD: List[Wrong] = [("Odd", breach, uid) for uid in (0, 0x7FFF_FFFF_FFFE, 0xFFFF
 # One reply in so many is lost, one lone reply has bit errors, and one silence brings noise. 0: none.
 NOISY: List[Wrong] = [("Disturbed", 0, 10, 0), ("Disturbed", 0, 0, 100), ("Disturbed", 0, 0, 10),
                       ("Disturbed", 20, 20, 20), ("Disturbed", 10, 10, 10)]
+LEVELS = (1000, 100, 20, 10, 5)
+ALL_NOISY: List[Wrong] = [("Disturbed", 0, 0, 0), *(("Disturbed", *levels) for level in LEVELS for levels in (
+    (level, 0, 0), (0, level, 0), (0, 0, level), (level, level, level)))]
 # What one fixture of a rig lies about, or two. They have the first UIDs, some in the middle, or the last.
 LIES: List[Wrong] = [("Lying", lie.value) for lie in Lie]
 PAIRS: List[Wrong] = [("Lying", one.value, other.value)
                       for one, other in itertools.combinations_with_replacement(Lie, 2)]
+# The levels of losses, bit errors and noise on lines whose fixtures lie, too.
+AROUND_LIES = ((20, 20, 20), (10, 0, 0), (0, 20, 0), (0, 0, 20), (10, 20, 20))
+
+
+def noisy(lies: List[Wrong], levels: Sequence[Tuple[int, int, int]]) -> List[Wrong]:
+    """The same lies on lines that are disturbed, at each of these levels."""
+    return [("NoisyLying", *level, *lying) for level in levels for _, *lying in lies]
+
+
 # For each subject: the most devices, and its rows, each with the spread of the devices and what is wrong.
 SUBJECTS: Dict[str, Tuple[int, List[Tuple[str, Wrong]]]] = {
     "frames": (1024, list(itertools.product(SPREADS, HONEST))),
@@ -57,6 +73,16 @@ SUBJECTS: Dict[str, Tuple[int, List[Tuple[str, Wrong]]]] = {
                       *((spread, wrong) for wrong in ODD for spread in ("Random", "Close"))]),
     "lies": (1000, list(itertools.product(["Random", "Close"], LIES))),
     "pairs": (1000, list(itertools.product(["Random", "Close"], PAIRS))),
+    "noisy-lies": (1000, list(itertools.product(["Block", "Makers"], noisy(LIES, AROUND_LIES[:1])))),
+    "noisy-pairs": (1000, list(itertools.product(["Random"], noisy(PAIRS, AROUND_LIES[:1])))),
+}
+# The rows of a subject with all spreads and levels, if it has more.
+ALL_ROWS: Dict[str, List[Tuple[str, Wrong]]] = {
+    "noise": list(itertools.product(DRAWN, ALL_NOISY)),
+    "lies": list(itertools.product(DRAWN, LIES)),
+    "pairs": list(itertools.product(DRAWN, PAIRS)),
+    "noisy-lies": list(itertools.product(DRAWN, noisy(LIES, AROUND_LIES))),
+    "noisy-pairs": list(itertools.product(DRAWN, noisy(PAIRS, AROUND_LIES))),
 }
 
 
@@ -160,12 +186,17 @@ class SimulatedLine:
 
 
 class DisturbedLine(SimulatedLine):
-    """A line on which lone replies may have bit errors, and silences may bring noise."""
+    """A line like this one, on which replies may be lost or have bit errors, and silences may bring noise. A rig's
+    collisions may have bit errors, too."""
 
-    def __init__(self, devices: FrozenSet[int], random: Random, lost: int, errors: int, noise: int) -> None:
-        super().__init__(devices, losses=few_losses(random, lost))
+    def __init__(self, line: SimulatedLine, random: Random, lost: int, errors: int, noise: int) -> None:
+        super().__init__(line.devices, losses=few_losses(random, lost), odd=line.odd)
+        self.line = line
         self.errors = noises(random, errors)
         self.noise = noises(random, noise)
+
+    def reply(self, frame: bytes) -> bytes:
+        return self.line.exchange(frame)
 
     def exchange(self, frame: bytes) -> bytes:
         reply = super().exchange(frame)
@@ -266,9 +297,11 @@ def line_of(devices: FrozenSet[int], seed: int, kind: str, *details: Any) -> Sim
     if kind == "Noise":
         return SimulatedLine(devices, silences=noises(Random(seed), *details))
     if kind == "Disturbed":
-        return DisturbedLine(devices, Random(seed), *details)
+        return DisturbedLine(SimulatedLine(devices), Random(seed), *details)
     if kind == "Lying":
         return LyingLine(devices, liars_of(devices, seed, details))
+    if kind == "NoisyLying":
+        return DisturbedLine(line_of(devices, seed, "Lying", *details[3:]), Random(seed), *details[:3])
     return OddLine(devices, *details) if kind == "Odd" else SimulatedLine(devices)
 
 
@@ -320,12 +353,14 @@ def print_row(spread: str, wrong: Wrong, search: Search, size: int, rounds: int)
                 raise WrongEnd("it didn't find all devices")
         except WrongEnd as reason:
             sys.exit(f"searches: {row}, seed {seed}: {reason}")
-    print(f"{row}: {ends}")
+    print(f"{row}: {ends}", flush=True)
 
 
 def main() -> None:
     """Prints the rows of a subject."""
     parser = argparse.ArgumentParser(description=__doc__.splitlines()[0])
+    parser.add_argument("--all", action="store_true")
+    parser.add_argument("--quick", action="store_true")
     parser.add_argument("subject", choices=SUBJECTS)
     parser.add_argument("size", type=int)
     parser.add_argument("rounds", type=int)
@@ -333,8 +368,10 @@ def main() -> None:
     most, rows = SUBJECTS[given.subject]
     if not (1 <= given.size <= most and 1 <= given.rounds <= MOST_ROUNDS):
         parser.error(f"SIZE is from 1 to {most}, and ROUNDS from 1 to {MOST_ROUNDS}")
+    if given.all:
+        rows = ALL_ROWS.get(given.subject, rows)
     for spread, wrong in rows:
-        for search in Search:
+        for search in [Search.QUICK] if given.quick else Search:
             print_row(spread, wrong, search, given.size, given.rounds)
 
 
