@@ -1,6 +1,8 @@
 """Signals at each step of an installation: no half file, and a second try works."""
 from __future__ import annotations
 
+import itertools
+import os
 import shutil
 import signal
 import subprocess
@@ -34,6 +36,8 @@ def step(event, arguments):
 sys.addaudithook(step)
 """
 SIGNALS = (signal.SIGKILL, signal.SIGINT, signal.SIGTERM, signal.SIGHUP, signal.SIGPIPE)
+# With checks/scripts --all each step gets each signal, and else the first and the last one of each kind gets one.
+ALL = "ALL_STEPS" in os.environ
 Tree = Dict[str, bytes]
 
 
@@ -85,15 +89,18 @@ class Interrupts(unittest.TestCase):
             self.assertEqual(list(self.temporary.iterdir()), [])
 
     def each(self, option: str, old: Tree, least: int) -> None:
-        """Tries the first and the last step of each kind, at least so many, with one signal after the other."""
+        """Tries the first and the last step of each kind, at least so many, with one signal after the other, or all."""
         self.begin(old)
         status, names = self.call(option)
         self.assertEqual(status, 0)
         new = files_in(self.target)
         steps = {names.index(name) + 1 for name in names} | {len(names) - names[::-1].index(name) for name in names}
         self.assertGreaterEqual(len(steps), least)
-        for at, step in enumerate(sorted(steps)):
-            number = SIGNALS[at % len(SIGNALS)]
+        trials = list(zip(sorted(steps), itertools.cycle(SIGNALS)))
+        if ALL:
+            trials = list(itertools.product(range(1, len(names) + 1), SIGNALS))
+            print(f"{option}: {len(names)} steps, {len(trials)} trials", flush=True)
+        for step, number in trials:
             with self.subTest(step=f"{names[step - 1]}, step {step}", number=number):
                 self.begin(old)
                 status, _ = self.call(option, step, number)
@@ -134,7 +141,7 @@ class Interrupts(unittest.TestCase):
     @unittest.skipUnless(has_tools(), "commands that make packages are missing")
     def test_package(self) -> None:
         self.assertEqual(build(self.clone, "packages").returncode, 0)
-        self.put_steps("dpkg-deb")
+        self.put_steps("dpkg-deb", *COMMANDS if ALL else ())
         self.each("--package", {}, 2)
 
 
