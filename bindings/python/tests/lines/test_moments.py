@@ -228,6 +228,28 @@ class Calls(LongTestCase):
         self.each(lambda scene: scene.session.rotate(), get, serve,
                   lambda scene: scene.note(scene.client.next_outcome()), then=rotated)
 
+    def test_calls_of_a_log(self) -> None:
+        def begin(scene: Scene) -> None:
+            scene.note(scene.client.next_outcome())
+            scene.log = scene.session.rotate()  # type: ignore[attr-defined]
+            scene.history += scene.log.entries()  # type: ignore[attr-defined]
+
+        def read_again(scene: Scene, returned: List[Any]) -> None:
+            entries_read = elsewhere(scene.log.entries)  # type: ignore[attr-defined]
+            self.assertEqual(list(entries_read), scene.history)
+            scene.log.dispose()  # type: ignore[attr-defined]
+            check(scene, [])
+
+        def disposed(scene: Scene, returned: List[Any]) -> None:
+            elsewhere(lambda: scene.log.dispose() or True)  # type: ignore[attr-defined]
+            self.assertRaises(wurstlinen.NotOpen, scene.log.entry, 0)  # type: ignore[attr-defined]
+            check(scene, [])
+
+        for read in (lambda scene: scene.log.entry(0), lambda scene: scene.log.entries(),
+                     lambda scene: scene.log.entry_count()):
+            self.each(read, get, serve, begin, then=read_again)
+        self.each(lambda scene: scene.log.dispose(), get, serve, begin, then=disposed)
+
     def test_entries_of_a_page(self) -> None:
         def whole(scene: Scene, returned: List[Any]) -> None:
             scene.history += [*scene.read, *scene.page]  # type: ignore[attr-defined]

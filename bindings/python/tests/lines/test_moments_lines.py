@@ -9,6 +9,7 @@ import sys
 import threading
 from pathlib import Path
 from typing import Any, Iterator, List, Tuple
+from unittest import mock
 
 from common import ENTTEC, ListLine, LongTestCase, folder, one
 from moments import Trial, elsewhere, held, raising
@@ -113,6 +114,20 @@ class Texts(LongTestCase):
             for end in ends:
                 os.close(end)
 
+    def test_open_a_command(self) -> None:
+        def whole(made: None) -> bytes:
+            with open_line("exec:cat") as line:
+                return line.exchange(FRAME)
+
+        def check(made: None, returned: List[bytes]) -> None:
+            self.assertEqual(returned, [FRAME] * len(returned))
+            gc.collect()
+            # If even the close was interrupted, what was started ends since nobody has its other ends.
+            with contextlib.suppress(ChildProcessError):
+                os.waitpid(-1, 0)
+
+        self.assertGreater(Trial(lambda: None, whole, check).run(), 50)
+
     def test_far_ends(self) -> None:
         def serve(line: Rig) -> bytes:
             replies = io.BytesIO()
@@ -176,6 +191,21 @@ class Adapters(LongTestCase):
 
             self.assertGreater(Trial(lambda: None, whole, check).run(), 100)
 
+    def test_open_line(self) -> None:
+        def check(made: None, returned: List[None]) -> None:
+            gc.collect()
+            self.assertEqual(os.listdir(locks), [])
+
+        with self.emulated() as (emulator, locks), \
+                mock.patch.object(EnttecPro.__init__, "__defaults__", (locks, BUSY_SECONDS)):
+            trial = Trial(lambda: None, lambda made: open_line(f"enttec:{emulator.path}").close(), check)
+            self.assertGreater(trial.run(), 100)
+
+    def test_opening_again(self) -> None:
+        with self.emulated() as (emulator, locks), EnttecPro(emulator.path, locks, BUSY_SECONDS) as driver:
+            trial = Trial(lambda: driver, EnttecPro.open, lambda line, _: self.lamp(line, 2))
+            self.assertGreater(trial.run(), 100)
+
     def test_emulators(self) -> None:
         def whole(made: None) -> None:
             with Emulator(ListLine()):
@@ -220,4 +250,7 @@ class Rigs(LongTestCase):
             file = place / "rig.json"
             file.write_text('{"source": "7a70:00000100", "devices": [{"uid": "1234:00000001"}]}')
             trial = Trial(lambda: file, Rig, lambda path, _: self.assertEqual(len(Rig(path).fixtures), 1))
+            self.assertGreater(trial.run(), 20)
+            trial = Trial(lambda: file, lambda path: open_line(f"rig:{path}"),
+                          lambda path, _: self.assertIsInstance(open_line(f"rig:{path}"), Rig))
             self.assertGreater(trial.run(), 20)

@@ -9,12 +9,12 @@ import itertools
 import socket
 import threading
 from pathlib import Path
-from typing import Iterator, List, Optional, Tuple
+from typing import Callable, Iterator, List, Optional, Tuple
 from unittest import mock
 
 from common import LongTestCase, TestCase, folder, needs_library
 from fronts import called
-from moments import FAULTS, Trace, elsewhere
+from moments import FAULTS, SECONDS, Trace, Trial, elsewhere
 from test_closing import Waiting
 from wurstlinen import (
     AckType, Completion, Discovery, Kind, LineFailed, ReplyHead, Request, RequestClass, ResponseClass, RunFaultKind,
@@ -76,7 +76,8 @@ class Script:
         self._answers = list(answers)
         self._listener = socket.create_server(("127.0.0.1", 0))
         self.port = self._listener.getsockname()[1]
-        threading.Thread(target=self._serve, daemon=True).start()
+        self.thread = threading.Thread(target=self._serve, daemon=True)
+        self.thread.start()
 
     def _serve(self) -> None:
         with contextlib.suppress(OSError), self._listener.accept()[0] as connection:
@@ -102,6 +103,16 @@ def on(*answers: Optional[bytes]) -> Iterator[Tuple[Script, Daemon]]:
     """A connection to such a daemon."""
     with Script(*answers) as script, contextlib.closing(Daemon(script.port)) as daemon:
         yield script, daemon
+
+
+@contextlib.contextmanager
+def script_and_client() -> Iterator[Tuple[Script, OlaClient]]:
+    """A client of such a daemon, whose first discovery has ended."""
+    answers = [answer(number, UIDS) for number in range(2, 6)]
+    with Script(UNIVERSES, *answers) as script, OlaClient(f"ola:1:{script.port}") as ola:
+        ola.discover(Kind.FULL)
+        ola.queue.run()
+        yield script, ola
 
 
 class Worst(LongTestCase):
@@ -136,6 +147,45 @@ class Worst(LongTestCase):
                 elsewhere(ola.queue.run)
                 kinds = [type(outcome) for outcome in iter(ola.next_outcome, None)]
                 self.assertEqual(kinds, [Completion, Discovery], str(moment))
+
+    def test_an_exception_at_each_line_of_a_clients_calls(self) -> None:
+        """Each call that waits has an outcome of its own, and each answer is the right one's."""
+        calls: List[Callable[[OlaClient], object]] = [
+            lambda ola: ola.submit(IDENTIFY), lambda ola: ola.discover(Kind.FULL), OlaClient.oldest,
+            OlaClient.next_outcome, OlaClient.next_discovery, lambda ola: ola.queue.bad_uids(),
+            lambda ola: ola.queue.bad_uids_run(), OlaClient.close]
+        for call in calls:
+            with script_and_client() as (_, ola):
+                trace = Trace()
+                trace.run(lambda: call(ola))
+            for moment, fault in zip(trace.moments(), itertools.cycle(FAULTS)):
+                with script_and_client() as (_, ola):
+                    returned: List[object] = []
+                    with contextlib.suppress(KeyboardInterrupt, MemoryError):
+                        returned.append(Trace(moment, fault).run(lambda: call(ola)))
+                    self.check_outcomes(ola, returned, str(moment))
+
+    def check_outcomes(self, ola: OlaClient, returned: List[object], moment: str) -> None:
+        """The discovery that was made first has its outcome, once, and what was submitted has one of its own."""
+        waiting = len(ola.queue.calls)
+        elsewhere(lambda: ola.queue.run() + 1)
+        outcomes = [*(each for each in returned if isinstance(each, (Completion, Discovery))),
+                    *iter(ola.next_outcome, None)]
+        self.assertEqual(len(outcomes), waiting + (len(outcomes) - waiting > 0), moment)
+        self.assertEqual([each.number for each in outcomes if isinstance(each, Discovery)][:1], [0], moment)
+        kinds = [(type(each), each.number) for each in outcomes]
+        self.assertEqual(len(kinds), len(set(kinds)), moment)
+
+    def test_opening_a_client(self) -> None:
+        def whole(script: Script) -> None:
+            with OlaClient(f"ola:1:{script.port}"):
+                pass
+
+        def check(script: Script, returned: List[None]) -> None:
+            script.__exit__()
+            script.thread.join(SECONDS)
+
+        self.assertGreater(Trial(lambda: Script(UNIVERSES), whole, check).run(), 50)
 
     def test_a_close(self) -> None:
         with on(b"") as (_, daemon):
