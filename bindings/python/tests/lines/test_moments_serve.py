@@ -4,13 +4,13 @@ from __future__ import annotations
 import contextlib
 import threading
 import time
-from typing import Any, Callable, List, Tuple
+from typing import Any, Callable, Iterator, List, Tuple
 
 from common import LongTestCase, needs_library
 from moments import Trial, elsewhere, held
 from servers import SECONDS, Here, here
 from test_serve import LEFT, five
-from wurstlinen import Kind, LineFailed, OtherOutcome, SharedClient, connect
+from wurstlinen import Answer, Kind, LineFailed, OtherOutcome, SharedClient, connect
 
 RIGHT = "1234:00000002"
 Call = Callable[[SharedClient], Any]
@@ -19,6 +19,11 @@ Call = Callable[[SharedClient], Any]
 def get(client: SharedClient) -> int:
     """Submits a request."""
     return client.get(LEFT, 0x82)
+
+
+def ask(client: SharedClient) -> Answer:
+    """Asks a fixture, however busy the machine is."""
+    return client.ask(LEFT, 0x82, wait=SECONDS)
 
 
 def discover(client: SharedClient) -> int:
@@ -53,7 +58,7 @@ class Scene:
             try:
                 self.client.queue.resume()
                 self.client.queue.run()
-                return [*iter(self.client.next_outcome, None), self.client.ask(RIGHT, 0x82)]
+                return [*iter(self.client.next_outcome, None), self.client.ask(RIGHT, 0x82, wait=SECONDS)]
             except LineFailed as fault:
                 return fault
         found = elsewhere(rest)
@@ -61,14 +66,23 @@ class Scene:
             assert self.client.queue.connection.is_closed, found
             return
         assert found[-1].completion.data == b"Front right", found[-1]
-        outcomes = [each for each in (*returned, *found[:-1]) if hasattr(each, "number")]
-        assert sorted(each.number for each in outcomes) == sorted(self.accepted[:-1]), (outcomes, self.accepted)
+        numbers = sorted(each.number for each in (*outcomes_in(returned), *outcomes_in(found)))
+        assert numbers == sorted(self.accepted), (numbers, self.accepted)
 
     def end(self) -> None:
         """Ends the connection, of which the server keeps nothing."""
         self._made.server._backlog.accept = self._accept  # type: ignore[method-assign]
         self.client.close()
         settle(self._made, self._before)
+
+
+def outcomes_in(returned: List[Any]) -> Iterator[Any]:
+    """The outcomes among what was returned, and those in answers."""
+    for each in returned:
+        if isinstance(each, Answer):
+            yield from (*each.queued, *each.earlier, each.completion)
+        elif hasattr(each, "number"):
+            yield each
 
 
 def begun() -> None:
@@ -91,12 +105,12 @@ def settle(made: Here, before: Tuple[int, int]) -> None:
 class Calls(LongTestCase):
     """The calls of a client, and of what it knows of the queue."""
 
-    def each(self, call: Call, *begin: Call) -> None:
-        """Makes the call at each moment, after these."""
+    def each(self, call: Call, *begin: Call, least: int = 6) -> None:
+        """Makes the call at each moment, at least so many, after these."""
         with here(five) as made:
             begun()
             trial = Trial(lambda: Scene(made, *begin), lambda scene: call(scene.client), Scene.check, Scene.end)
-            self.assertGreater(trial.run(), 5)
+            self.assertGreaterEqual(trial.run(), least)
             self.assertEqual(made.server._status()["outstanding"], 0)
 
     def test_requests_and_discoveries(self) -> None:
@@ -114,6 +128,10 @@ class Calls(LongTestCase):
         self.each(either, discover, run)
         self.each(run, get, get)
 
+    def test_asking(self) -> None:
+        self.each(ask)
+        self.each(ask, get, discover)
+
     def test_what_is_known_of_the_queue(self) -> None:
         calls: List[Call] = [
             lambda client: client.queue.pause(), lambda client: client.queue.resume(),
@@ -123,6 +141,8 @@ class Calls(LongTestCase):
             lambda client: client.queue.is_idle()]
         for call in calls:
             self.each(call, get)
+        for call in (lambda client: client.queue.bad_uids(), lambda client: client.queue.bad_uids_run()):
+            self.each(call, discover, run, least=2)
 
     def test_connections(self) -> None:
         with here(five) as made:
