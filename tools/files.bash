@@ -44,7 +44,8 @@ put_folder() (
     mkdir -m 700 -- "$folder" || { trap - EXIT && exit 1; }
     # With these, the shell waits for a mv that is under way.
     trap 'exit 129' HUP
-    trap 'exit 130' INT
+    # The shell above goes on after an interrupt by which this one doesn't end itself.
+    trap 'trap - INT; kill -s INT "$BASHPID"' INT
     trap 'exit 143' TERM
     "$1" "$2" "$folder/new" || exit
     chmod -R u=rwX,go=rX -- "$folder/new" || exit
