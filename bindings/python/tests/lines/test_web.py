@@ -14,8 +14,8 @@ from web_pages import (
 )
 from wurstlinen.tool.places import program
 
-TAKE = "Take 4444:00000001 off the line, and discover again. 4444:00000001 isn't in the list: unplug half of the " \
-       "line and discover again to find it. "
+FIND = "Something that isn't in the list answers wrongly, as 4444:00000001: discover again. If it still does, " \
+       "unplug half of the line, and discover again, to find it. The discovery is incomplete. "
 BAD = "<img src=x onerror=top.bad=1>"
 APPLYING = f"""3 changes:
 Front left ({LEFT}): personality 1 Basic, 7 slots → 2 Extended, 14 slots
@@ -469,12 +469,13 @@ class OtherViews(BrowserTestCase):
     def test_discovery(self, size: Tuple[int, int]) -> None:
         with opened(size, "discovery") as (seen, _, rig):
             seen.until("document.querySelector('.result')?.textContent.startsWith('5 fixtures found with')")
-            self.assertIn("; nothing else can be on this line if it is honest.", seen.texts(".result")[0])
+            self.assertIn("; nothing else can be on this line if it is honest: if all on it keep RDM's rules.",
+                          seen.texts(".result")[0])
             self.assertIn("Once it has begun, nothing stops it: it ends by itself.", seen.texts(".tools p"))
             rig.gone.add(rig.fixtures[2].uid)
             rig.delay = 0.02
             seen.button("Discover")
-            seen.until("/[0-9]+ frames so far, [1-3] fixtures? found: /.test("
+            seen.until("/[0-9]+ messages so far, [1-3] fixtures? found: /.test("
                        "document.querySelector('main').textContent)")
             rig.delay = 0.0
             seen.until("document.querySelector('.result')?.textContent.startsWith('4 fixtures found with')")
@@ -490,7 +491,7 @@ class OtherViews(BrowserTestCase):
             seen.button("Discovery")
             if program() is not None:
                 # Who is missing has broken no rule.
-                self.assertRegex(seen.texts(".result")[0], r"^4 fixtures found with \d+ frames\. "
+                self.assertRegex(seen.texts(".result")[0], r"^4 fixtures found with \d+ messages\. "
                                                            r"1 listed fixture was not found\.$")
                 seen.until("document.querySelector('iframe')?.src.includes('/picture/')")
                 if size == PHONE:
@@ -536,8 +537,9 @@ class OtherViews(BrowserTestCase):
                 seen.button(view)
                 seen.until("document.querySelector('.result.bad a')")
                 said = seen.texts(".result.bad")[0]
-                self.assertTrue(said.startswith(TAKE), said)
-                self.assertEqual([said.count(each) for each in ("off the line", "unplug half")], [1, 1])
+                # Nobody can take off what isn't in the list.
+                self.assertTrue(said.startswith(FIND), said)
+                self.assertNotIn("off the line", said)
                 self.assertIn(" Missing: “Lost” (in the file, not in the list). Discovery says more.", said)
             # One that was there before is missing, too: the sentence, the count and the discovery agree.
             rig.gone.add(rig.fixtures[2].uid)
@@ -552,7 +554,7 @@ class OtherViews(BrowserTestCase):
                        "'rig.csv: 1 of its fixtures missing, 4 not in it, 2 overlaps on the line now'")
             # Nor does its own page, which leads to what is known.
             seen.click(f"{row(BACK)} .more")
-            seen.until("document.querySelector('article .result.bad')?.textContent.startsWith('Take 4444')")
+            seen.until("document.querySelector('article .result.bad')?.textContent.startsWith('Something that ')")
             seen.click("article .result a")
             seen.until(f"{sections}['Missing']?.includes('Back truss (') && {sections}['Missing'].includes('Lost (')")
 

@@ -2,19 +2,23 @@
 from __future__ import annotations
 
 import json
+import re
 import unittest
 from typing import Tuple
+from unittest import mock
 
 from browser import needs_chromium
-from common import needs_library
+from common import needs_library, scene
 from fronts import called
 from web_pages import (
-    BACK, DESK, HOUSE, LEFT, PHONE, RIGHT, BrowserTestCase, at_each_size, many, opened, row, web_on, window,
+    BACK, DESK, FIVE, HOUSE, LEFT, PHONE, RIGHT, BrowserTestCase, Moody, at_each_size, many, opened, row, web_on,
+    window,
 )
 from wurstlinen.tool.places import program
 
 WAITS = f"document.querySelector(\"{row(RIGHT)} .note\")?.textContent.includes(" \
         "\"waits until RDM is resumed, and can't be taken back before\")"
+LIAR, UID = "4444:00000001", "[0-9a-f]{4}:[0-9a-f]{8}"
 SECTIONS = "Object.fromEntries([...document.querySelectorAll('main section')].map((each) => " \
            "[each.firstChild.textContent, each.lastChild.textContent]))"
 
@@ -72,12 +76,48 @@ class Clear(BrowserTestCase):
     def test_a_discovery_with_a_liar(self, size: Tuple[int, int]) -> None:
         if program() is None:
             self.skipTest("needs the proved program")
-        liar = {"uid": "4444:00000001", "rig": {"label": "Liar", "lies": ["answers all"]}}
-        with opened(size, devices=[liar]) as (seen, _, _rig):
-            seen.until("document.querySelector('.result.bad')?.textContent.includes("
-                       "'a rule was broken, so others may be missing. Discovery says more.')")
-            seen.button("Discovery")
-            seen.until("document.querySelector('.result.bad')?.textContent.startsWith('6 fixtures found with')")
+        # By itself it is found like the others. If it isn't silent when it should be, it answers for all there can be.
+        for lies, found, wrong in ((["answers all"], 6, "; a rule was broken, so others may be missing."),
+                                   (["answers all", "stays unmuted"], 1, ". ")):
+            liar = {"uid": LIAR, "rig": {"label": "Liar", "lies": lies}}
+            with web_on(Moody(scene(devices=[*FIVE["devices"], liar]))) as web, window(web.address, size) as seen:
+                seen.open()
+                seen.until(f"document.querySelector('.result.bad')?.textContent.startsWith('Take Liar ({LIAR}) "
+                           "off the line, and discover again. ')")
+                said = seen.texts(".result.bad")[0]
+                self.assertIn(f"{found} fixture{'s' * (found > 1)} found with ", said)
+                self.assertIn(wrong, said)
+                self.assertEqual(set(re.findall(UID, said)), {LIAR})
+                seen.click(".result.bad a")
+                seen.until("document.querySelector('h2.name')?.textContent === 'Liar'")
+                seen.button("Discovery")
+                seen.until(f"{SECTIONS}['Fixtures that did something wrong']?.startsWith("
+                           f"'Liar ({LIAR}) take it off the line, and discover again')")
+                self.assertEqual(seen.page.value("document.querySelector('section').querySelectorAll('li').length"), 1)
+
+    @at_each_size
+    def test_what_isnt_in_the_list_isnt_taken_off(self, size: Tuple[int, int]) -> None:
+        """Whatever it did, also without the proved program, which says what that shows."""
+        for lies, finds in ((["wrong sum"], True), (["ignores mutes"], True), (["cuts short"], False)):
+            if finds and program() is None:
+                self.skipTest("needs the proved program")
+            with mock.patch("wurstlinen.front.page_findings.program", program if finds else lambda: None), \
+                    opened(size, devices=[{"uid": LIAR, "rig": {"label": "Liar", "lies": lies}}]) as (seen, web, _):
+                # All that was ever said is remembered, also what was said for a moment.
+                seen.page.value("""window.said = "", new MutationObserver(() => (said += document.body.textContent))
+                    .observe(document.body, { childList: true, subtree: true, characterData: true })""")
+                wanted = f"Something that isn\\'t in the list answers wrongly, as {LIAR}: discover again. "
+                for _ in range(2):
+                    seen.until(f"document.querySelector('.result.bad')?.textContent.startsWith('{wanted}')")
+                    web.call("discover")
+                    seen.until("document.querySelector('.count')?.textContent === 'a discovery runs'")
+                seen.button("Discovery")
+                seen.until(f"{SECTIONS}['Fixtures that did something wrong']?.startsWith("
+                           f"\"{LIAR} isn't in the list: discover again\")")
+                self.assertNotIn("off the line", seen.page.value("said"))
+                # What the file has is said to be there.
+                web.call("load", name="rig.csv", text=f"uid,label\n{LIAR},Lost\n")
+                seen.until(f"document.querySelector('.result').textContent.includes(', as Lost ({LIAR}): discover')")
 
     def test_nobody_looks_for_the_uid_of_all(self) -> None:
         if program() is None:
@@ -86,7 +126,7 @@ class Clear(BrowserTestCase):
         with opened(DESK, "discovery", devices=[liar]) as (seen, _, _rig):
             seen.until(f"{SECTIONS}['Also seen']?.includes('ffff:ffffffff')")
             self.assertNotIn("Missing", seen.page.value(SECTIONS))
-            self.assertIn("Liar (4444:00000001) was asked alone", seen.texts(".result")[0])
+            self.assertTrue(seen.texts(".result")[0].startswith(f"Take Liar ({LIAR}) off the line, and "))
 
     def test_what_is_selected_by_a_finger(self) -> None:
         with opened(PHONE, "slots") as (seen, _, _rig):
@@ -190,7 +230,7 @@ class Clear(BrowserTestCase):
             self.skipTest("needs the proved program")
         liar = {"uid": "4444:00000001", "rig": {"label": "Liar", "lies": ["wrong sum"]}}
         with opened(size, "discovery", devices=[liar]) as (seen, web, rig):
-            seen.until("document.querySelector('.result.bad')?.textContent.startsWith('Take ')")
+            seen.until("document.querySelector('.result.bad')?.textContent.startsWith('Something ')")
             rig.gone.add(rig.fixtures[2].uid)
             web.call("discover")
             seen.until(f"{SECTIONS}['Missing']?.includes('Back truss')")
@@ -202,11 +242,11 @@ class Clear(BrowserTestCase):
             for view in ("Discovery", "Fixtures", "Slots"):
                 seen.button(view)
                 seen.until(f"document.querySelector('main.{view.lower()} .result.bad')?.textContent.startsWith('Before "
-                           "this discovery: 4444:00000001 did something wrong. The one before was incomplete: ')")
+                           "this discovery: 4444:00000001 did something wrong. The one before was incomplete. ')")
                 # Nothing is advised for what may be over.
                 self.assertNotRegex(seen.texts("main")[0], r"(?i)\b(take|unplug|split|check|discover again)\b")
             rig.delay = 0.0
-            seen.until("document.querySelector('.result.bad')?.textContent.startsWith('Take ')")
+            seen.until("document.querySelector('.result.bad')?.textContent.startsWith('Something ')")
 
     def test_a_run_that_has_ended_isnt_so_far(self) -> None:
         with opened(DESK, "discovery") as (seen, web, rig):

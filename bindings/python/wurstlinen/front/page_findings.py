@@ -10,6 +10,7 @@ from dataclasses import dataclass
 from typing import AbstractSet, Any, Dict, Iterator, List, Optional, Sequence, Tuple
 
 from .. import Uid
+from ..lines.packets import decode_branch_reply
 from ..lines.uids import is_broadcast, parse_uid
 from ..tool.places import program
 from .discovery_log import explanation
@@ -160,12 +161,24 @@ def findings_of(log: Sequence[str], expected: Sequence[Uid]
     about = [(None if number is None else Uid.from_number(number), each)
              for number, each in said.of_uids({uid.number for uid in expected})]
     reasons = {uid: each.text.removeprefix(f"{uid} ") for uid, each in about if uid is not None}
-    good = {uid for uid, each in about if each.judgement == GOOD}
-    broken = {uid for uid, each in about if each.judgement == GARBLED or (each.judgement == BROKE and each.is_found)}
-    bad = [{"uid": str(uid), "text": text, "is_broken": uid in broken} for uid, text in reasons.items()
-           if uid in broken or uid not in good]
-    return said, reasons, {"devices": bad, "others": [each.text for uid, each in about if uid is None],
-                           "is_broken": said.is_broken, "missing": said.missing()}
+    # Who breaks a rule may answer for others, and then these are nobody.
+    breaks = {each: spoken(log, each) or uid for uid, each in about
+              if each.judgement in BREAKS or (each.judgement == BROKE and each.is_found)}
+    broken = {who: each.text.removeprefix(f"{who} ") for each, who in breaks.items() if who is not None}
+    others = {uid: reasons[uid] for uid, each in about
+              if uid is not None and each.judgement != GOOD and each not in breaks}
+    return said, reasons, {
+        "devices": [{"uid": str(uid), "text": text, "is_broken": uid in broken}
+                    for uid, text in {**others, **broken}.items()],
+        "others": [each.text for uid, each in about if uid is None and breaks.get(each) is None],
+        "is_broken": said.is_broken, "missing": said.missing()}
+
+
+def spoken(log: Sequence[str], found: Finding) -> Optional[Uid]:
+    """Whose reply to a branch the bytes are that a finding is about, if they are one."""
+    entry = {} if found.place is None else json.loads(log[1 + found.place])
+    number = decode_branch_reply(bytes.fromhex(entry.get("reply", "")))
+    return None if number is None or is_broadcast(number) else Uid.from_number(number)
 
 
 def run_findings(run: Dict[str, Any], place: int) -> List[Finding]:

@@ -1,44 +1,58 @@
 // Discovery: how far it is, what it found, who broke the rules, what is missing and why, and its picture.
 import { act, addressOf } from "/app.js";
 import { button, classes, make, plural } from "/dom.js";
-import { advised, linked, nameOf, named, withoutAdvice } from "/fixtures.js";
+import { DETAIL, UID, advised, linked, nameOf, named, withoutAdvice } from "/fixtures.js";
 import { fixtureOf, maySend, parts, partsOf } from "/server.js";
 
+// More aren't named in a sentence.
+const MOST_NAMED = 3;
+const devicesOf = (last) => last?.devices ?? [];
+const listed = (all) => [...all.slice(0, MOST_NAMED).map(({ uid }, at) => [at > 0 && ", ", linked(uid)]),
+    all.length > MOST_NAMED && ` and ${all.length - MOST_NAMED} more`];
+
+// Who did something wrong: what was seen, which isn't known at once, or else whom the fault names.
+function wrongOf(last) {
+    const seen = devicesOf(last).filter((each) => each.is_broken), uids = last && "picture" in last && last.fault;
+    return seen.length ? seen : ((uids || "").match(UID) ?? []).map((uid) => ({ uid, text: last.fault }));
+}
+
+// What is to be done about them. Only those of the list can be told from others.
+const TAKE = "off the line, and discover again", FIND = "discover again. If it still does, unplug half of the line, and "
+    + "discover again, to find it";
+function ordersOf(wrong) {
+    const known = wrong.filter(({ uid }) => fixtureOf(uid)), strange = wrong.filter(({ uid }) => !fixtureOf(uid));
+    return [known.length > 0 && ["Take ", listed(known), ` ${TAKE}. `], strange.length > 0
+        && ["Something that isn't in the list answers wrongly, as ", listed(strange), `: ${FIND}. `]];
+}
+
 function resultText(last) {
-    const found = `${plural(last.found, "fixture")} found with ${plural(last.frames, "frame")}`;
-    const bad = (last.devices ?? []).filter((each) => each.is_broken).map(({ uid }) => uid);
-    const names = bad.map((uid) => nameOf(fixtureOf(uid)) || uid).join(", ");
-    const unlisted = bad.filter((uid) => !fixtureOf(uid)).join(", "), isOld = isUnderWay(last);
-    // While another one is under way nothing is advised, and otherwise nothing twice.
-    const first = isOld ? `Before this discovery: ${names && `${names} did something wrong. `}`
-        : (names && `Take ${names} off the line, and discover again. `)
-            + (unlisted && `${unlisted} isn't in the list: unplug half of the line and discover again to find it. `);
-    const fault = isOld || bad.some((uid) => last.fault?.includes(uid)) ? withoutAdvice(last.fault ?? "") : last.fault;
-    const which = isOld ? "The one before was" : "The discovery is";
-    return first + (fault ? `${which} incomplete: ${named(fault)}. ${found}.`
-        : last.missing ? `${found}. ${last.missing}`
-            : last.is_broken ? `${found}; a rule was broken, so others may be missing.`
-                : last.found ? `${found}; nothing else can be on this line if it is honest.`
-                    : `${found}${isOld ? "" : ": check the adapter and the first cable"}.`);
+    const found = `${plural(last.found, "fixture")} found with ${plural(last.frames, "message")}`;
+    const isOld = isUnderWay(last), wrong = wrongOf(last), which = isOld ? "The one before was" : "The discovery is";
+    const why = last.fault && !wrong.length ? `: ${named(withoutAdvice(last.fault))}` : "";
+    // While another one is under way nothing is advised.
+    return [isOld ? ["Before this discovery: ", wrong.length > 0 && [listed(wrong), " did something wrong. "]]
+        : ordersOf(wrong), last.fault ? `${which} incomplete${why}. ${found}.` : last.missing ? `${found}. ${last.missing}`
+        : last.is_broken ? `${found}; a rule was broken, so others may be missing.`
+            : last.found ? `${found}; nothing else can be on this line if it is honest: if all on it keep RDM's rules.`
+                : `${found}${isOld ? "" : ": check the adapter and the first cable"}.`];
 }
 
 const isBad = (last) => Boolean(last?.fault || last?.is_broken);
-const said = () => parts.get("discovery")?.devices ?? [];
-const labelOf = (uid) => parts.get("file")?.differences.find((each) => each.uid === uid)?.label;
 // Those that are missing: of the list, and then those of the file that is loaded which aren't in the list.
 export function absent() {
     const planned = (parts.get("file")?.differences ?? []).filter(({ kind, uid }) => kind === "missing"
-        && !fixtureOf(uid)).map((each) => ({ ...each, ...said().find(({ uid }) => uid === each.uid) }));
+        && !fixtureOf(uid)).map((each) => ({ ...each,
+        ...devicesOf(parts.get("discovery")).find(({ uid }) => uid === each.uid) }));
     return [...partsOf("fixture/").filter((found) => found.missing).map((found) => ({ ...found, text: found.missing })),
         ...planned.filter((each) => !each.is_broken)];
 }
 
 // What other views say of a discovery that is incomplete.
 export function alarm() {
-    const last = parts.get("discovery"), names = absent().map((each) => `“${nameOf(each) || each.uid}”`
-        + (each.kind ? " (in the file, not in the list)" : "")).join(", ");
-    return isBad(last) && make("p", { class: "result bad" }, `${resultText(last)} `,
-        names && `Missing: ${names}. `, make("a", { href: addressOf("discovery") }, "Discovery"), " says more.");
+    const last = parts.get("discovery"), names = absent().map((each, at) => [at > 0 && ", ", "“", linked(each.uid)[0],
+        "”", each.kind && " (in the file, not in the list)"]);
+    return isBad(last) && make("p", { class: "result bad" }, resultText(last), " ", names.length > 0 && ["Missing: ",
+        names, ". "], make("a", { href: addressOf("discovery") }, "Discovery"), " says more.");
 }
 
 // Whether one is under way, of this page or of another program. Once its result is shown it has ended.
@@ -48,16 +62,17 @@ export const isUnderWay = (last = parts.get("discovery"), now = parts.get("progr
 // How far a run is, or was if the result isn't shown.
 function progressText(now, last) {
     const names = (now && !now.is_over ? now.found : []).map((uid) => nameOf(fixtureOf(uid)) || uid).join(", ");
-    return !now ? "No discovery was seen so far." : last?.frames === now.frames ? "" : `Run ${now.run}: `
-        + `${plural(now.frames, "frame")}${now.is_over ? "" : " so far"}, ${plural(now.found.length, "fixture")} found`
-        + (names && `: ${names}`);
+    return !now ? "No discovery was seen so far." : last?.frames === now.frames ? "" : `Discovery ${now.run}: `
+        + `${plural(now.frames, "message")}${now.is_over ? "" : " so far"}${now.found.length
+            ? `, ${plural(now.found.length, "fixture")} found` : ""}${names && `: ${names}`}`;
 }
 
-// What is said of devices, or without a UID of the line.
+// What is said of devices, or without a UID of the line; and small what only those understand who know RDM.
 function section(title, items) {
     return items.length > 0 && make("section", {}, make("h3", {}, title + (isUnderWay() ? " before this discovery"
-        : "")), make("ul", {}, items.map(({ uid = "", text }) => make("li", {}, ...(uid ? linked(uid, labelOf(uid))
-        : []), `${uid && text.startsWith("exchange") ? ":" : ""} ${advised(text)}`))));
+        : "")), make("ul", {}, items.map(({ uid = "", text = "", detail = "" }) => make("li", {}, uid && linked(uid),
+        text && ` ${advised(text).replace(DETAIL, "")}`, " ",
+        make("small", {}, withoutAdvice(detail) || DETAIL.exec(text)?.[0])))));
 }
 
 export function view() {
@@ -68,8 +83,9 @@ export function view() {
         make("p", { class: "sending" }, "Once it has begun, nothing stops it: it ends by itself.")),
         make("p", { role: "status" }, progressText(parts.get("progress"), last)),
         make("p", { class: classes("result", isBad(last) && "bad") }, last && "found" in last && resultText(last)),
-        section("Fixtures that did something wrong", said().filter((each) => each.is_broken)),
-        section("Missing", absent()), section("Also seen", (last?.others ?? []).map((text) => ({ text }))),
+        section("Fixtures that did something wrong", wrongOf(last).map(({ uid, text: detail }) => ({ uid, detail,
+            text: isUnderWay() ? "" : fixtureOf(uid) ? `take it ${TAKE}` : `isn't in the list: ${FIND}` }))),
+        section("Missing", absent()), section("Also seen", (last?.others ?? []).map((detail) => ({ detail }))),
         address && make("div", { key: address }, make("p", {}, make("a", { href: address, target: "_blank",
             rel: "noopener" }, "The picture in a tab of its own")), make("iframe", { sandbox: "allow-scripts",
             title: "The picture of the last discovery", src: address }))];

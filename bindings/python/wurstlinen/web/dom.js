@@ -2,7 +2,7 @@
 
 // An element that is wanted. With a `key` it is the same one in whichever place; `shown` is what an input shows unless
 // something else is typed in it. null, false and "" are no children.
-export const make = (kind, attributes = {}, ...children) => ({ kind, attributes, children: children.flat() });
+export const make = (kind, attributes = {}, ...children) => ({ kind, attributes, children: children.flat(Infinity) });
 
 export const button = (text, onclick, attributes = {}) => make("button", { type: "button", onclick, ...attributes },
     text);

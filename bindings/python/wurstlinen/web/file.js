@@ -42,9 +42,9 @@ function differences(file) {
     return [make("p", {}, `${name} has ${plural(rows, "fixture")}; ${found.length ? differencesOf(file)
         + (found.some(({ kind }) => kind === "overlap") ? ", not in the file: Apply says which it ends." : ":")
         : "nothing differs."}`), make("p", {}, note),
-    make("ul", { class: "differences" }, found.map(({ kind, uid, label, text }) => make("li", { class: classes(
+    make("ul", { class: "differences" }, found.map(({ kind, uid, text }) => make("li", { class: classes(
         ["missing", "overlap", "end"].includes(kind) && "bad") }, make("b", {},
-        kind === "new" ? "not in the file: " : `${kind}: `), linked(uid, label), `, ${text}`)))];
+        kind === "new" ? "not in the file: " : `${kind}: `), linked(uid), `, ${text}`)))];
 }
 
 export function view() {

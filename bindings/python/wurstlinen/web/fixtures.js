@@ -22,16 +22,19 @@ export const nameOf = (found) => found?.label || (found?.model && found.address 
 export const placedNameOf = (found) => nameOf(found) + (found?.model && !found.label ? ` (${found.uid})` : "")
     + (found?.missing ? " (missing)" : "");
 // A text of the page's program, in which fixtures have their names, too.
-export const named = (text) => text.replace(/[0-9a-f]{4}:[0-9a-f]{8}/g, (uid) => linked(uid).map((each) =>
-    each.children ?? each).join(""));
+export const UID = /[0-9a-f]{4}:[0-9a-f]{8}/g;
+export const named = (text) => text.replace(UID, (uid) => linked(uid).map((each) => each.children ?? each).join(""));
+// Which exchange shows it, which only those understand who know RDM.
+export const DETAIL = / \(exchange [^)]*\)/;
 // A text without what is to be done, which isn't said while another discovery is under way.
 export const withoutAdvice = (text) => text
-    .replace(/[:;] (if it happens again, )?(check|name it|see|split|take) .*?(?= \(exchange |$)/, "");
+    .replace(/[:;] (first |if it happens again, )?(check|name it|see|split|take) .*?(?= \(exchange |$)/, "");
 export const advised = (text) => (isUnderWay() ? withoutAdvice(text) : text);
 
-// The name of a fixture, which leads to it; or else its label.
-export function linked(uid, label = "") {
-    const found = fixtureOf(uid), name = nameOf(found) || label || uid;
+// The name of a fixture, which leads to it; or else its label in the file.
+export function linked(uid) {
+    const found = fixtureOf(uid), planned = parts.get("file")?.differences.find((each) => each.uid === uid);
+    const name = nameOf(found) || planned?.label || uid;
     return [found ? make("a", { href: addressOf("fixture", uid) }, name) : name, name === uid ? "" : ` (${uid})`];
 }
 
@@ -169,8 +172,7 @@ function rowOf(found) {
         "of-address": editor(found, "address"), slots: slotsOf(found), "of-personality": editor(found, "personality"),
         model: [found.manufacturer, found.model].filter(Boolean).join(" "), uid,
         note: [changeOf(found), missing && mayUse() && button("Remove from the list", () => act("forget", { uid })),
-            // Views that have more room say which exchange shows it.
-            make("p", { title: note }, make("span", {}, note.replace(/ \(exchange [^)]*\)/, "")), " ",
+            make("p", { title: note }, make("span", {}, note.replace(DETAIL, "")), " ",
                 make("small", {}, remarksOf(found).join("; ")))],
         "of-more": make("a", { href: addressOf("fixture", uid), class: "more",
             "aria-label": `All about ${nameOf(found)}` }, "›") };

@@ -113,7 +113,7 @@ class Rig:
     def adopt(self, devices: Sequence[Device], fault: Optional[str], reads_all: bool) -> None:
         """These devices are on the line, and with a fault perhaps more."""
         found = {device.uid for device in devices}
-        why = "the last discovery didn't find it" if fault is None else f"the last discovery is incomplete: {fault}"
+        why = "the last discovery didn't find it" if fault is None else "the last discovery is incomplete"
         # What other programs' runs show isn't known.
         self.reasons = {} if reads_all else {uid: text for uid, text in self.reasons.items() if uid not in found}
         known = {each.uid for each in self.fixtures() if not each.is_gone}
