@@ -10,7 +10,7 @@ from browser import needs_chromium
 from common import folder, needs_library
 from web_pages import (
     BACK, DESK, HOUSE, LEFT, PHONE, RIGHT, SECOND, BrowserTestCase, Window, at_each_size, folder_of_downloads, many,
-    opened, row, web_on, window,
+    opened, row, way, web_on, window,
 )
 from wurstlinen.tool.places import program
 
@@ -25,14 +25,6 @@ They make no slots overlap.
 They end this: “Front left” 1-7 overlaps {HOUSE} “House lights” 1; \
 “Front left” 1-7 overlaps {SECOND} “Dimmer, second half” 1.
 1 missing fixture of the file: not changed."""
-
-
-def way(seen: Window, from_slot: int, to_slot: int) -> Tuple[float, float]:
-    """How far it is from one slot to another."""
-    x, y = seen.page.value(f"""(() => {{ const [from, to] = [{from_slot}, {to_slot}].map((slot) =>
-        document.querySelectorAll(".universe i")[slot - 1].getBoundingClientRect());
-        return [to.left - from.left, to.top - from.top]; }})()""")
-    return x, y
 
 
 @needs_chromium
@@ -59,7 +51,8 @@ class Fixtures(BrowserTestCase):
             self.assertEqual(seen.texts(f"{row(LEFT)} .note button"), ["address 1 → 20 · Undo"])
             self.assertEqual(seen.texts(".rig .made"), ["address 1 → 20 · Undo"])
             # What is taken back is said before. At 1 it would overlap again.
-            seen.button("Undo (2)")
+            self.assertEqual(seen.texts("#undo"), [f"Undo\n{BAD}: address 20 → 1"])
+            seen.click("#undo")
             self.assertEqual(seen.texts(".message p"), [f"Undo: {BAD} ({LEFT}): address 20 → 1?"])
             self.assertEqual(seen.page.value("document.activeElement.textContent"), "Cancel")
             seen.button("Undo")
@@ -172,6 +165,7 @@ class Fixtures(BrowserTestCase):
                 # A finger leaves the box by what is in it.
                 seen.click(label)
                 seen.type("Half a na")
+                seen.until(f"document.querySelector(\"{label} + .leave\")")
                 seen.tap(f"{label} + .leave")
                 seen.until("document.activeElement === document.body")
                 self.assertEqual(seen.value(label), "Front left")
@@ -250,9 +244,7 @@ class Fixtures(BrowserTestCase):
     def test_filter_and_order(self, size: Tuple[int, int]) -> None:
         with opened(size) as (seen, _, _rig):
             seen.until("document.querySelectorAll('.rig tbody tr').length === 5")
-            both = [SECOND, "Dimmer, second half at 1"]
-            seen.until(f"document.querySelector(\"{row(SECOND)} .label\").placeholder === "
-                       f"'{', '.join(both if size == PHONE else reversed(both))}'")
+            seen.until(f"document.querySelector(\"{row(SECOND)} .label\").placeholder === 'Dimmer, second half at 1'")
             seen.click("input[type=search]")
             seen.type("wash front")
             seen.until("document.querySelectorAll('.rig tbody tr').length === 2")
@@ -327,6 +319,8 @@ class OtherViews(BrowserTestCase):
             seen.click(f"{row(BACK)} .more")
             seen.until("document.querySelector('.sensors')?.textContent === 'Head 41 °C'")
             self.assertEqual(seen.texts(".name"), ["Back truss"])
+            self.assertTrue(seen.texts(".whole")[0].endswith(" · slot 100"))
+            seen.until("[...document.querySelectorAll('dt')].some((each) => each.textContent === 'at slots')")
             if size == PHONE:
                 box = seen.page.value("(({width, height, bottom}) => [width, height, bottom])"
                                       "(document.querySelector('.identify').getBoundingClientRect())")
@@ -379,34 +373,10 @@ class OtherViews(BrowserTestCase):
             self.assertEqual(seen.page.value("[...document.querySelectorAll('button.crowded')].map((each) => "
                                              "each.dataset.uid)"), [LEFT, HOUSE, SECOND])
             # Five fixtures have 7, 7, 1, 1 and 1 slots, of which three share the first one.
-            self.assertIn("497 slots are free, 1 shared.", seen.texts("main p"))
+            self.assertIn("497 of 512 slots (DMX channels) are free, 1 shared.", seen.texts("main p"))
             x, y = way(seen, 8, 8 + 3 + 64)
             seen.drag(piece, x, y)
             events.until(lambda parts: parts.get(f"fixture/{RIGHT}", {}).get("address") == 8 + 3 + 64)
-
-    def test_slots_by_finger(self) -> None:
-        with opened(PHONE, "slots") as (seen, web, _), web.follow() as events:
-            piece = f"button[data-uid='{RIGHT}']"
-            seen.until(f"document.querySelector(\"{piece}\")")
-            at = seen.page.value(f"""(() => {{ document.querySelector("{piece}").scrollIntoView({{block: "center"}});
-                const box = document.querySelector("{piece}").getBoundingClientRect();
-                return [box.left + 8, box.top + 8]; }})()""")
-            # It is taken where its name is, which has no room in slot 8, the last one of its row.
-            by_the_way, there = way(seen, 9, 9 + 17), way(seen, 9, 9 + 48)
-
-            def touch(kind: str, dx: float = 0, dy: float = 0) -> None:
-                points = [] if kind == "touchEnd" else [{"x": at[0] + dx, "y": at[1] + dy}]
-                seen.page.call("Input.dispatchTouchEvent", type=kind, touchPoints=points)
-
-            # The first touch only selects it.
-            touch("touchStart")
-            touch("touchEnd")
-            seen.until(f"document.activeElement?.dataset.uid === '{RIGHT}'")
-            touch("touchStart")
-            touch("touchMove", *by_the_way)
-            touch("touchMove", *there)
-            touch("touchEnd")
-            events.until(lambda parts: parts.get(f"fixture/{RIGHT}", {}).get("address") == 8 + 48)
 
     @at_each_size
     def test_labels_at_one_slot_are_all_seen(self, size: Tuple[int, int]) -> None:
@@ -440,8 +410,8 @@ class OtherViews(BrowserTestCase):
             seen.page.value(f"document.querySelector(\"button[data-uid='{RIGHT}']\").focus()")
             for key in ("ArrowDown", "ArrowRight", "ArrowDown", "ArrowLeft", "ArrowLeft"):
                 seen.key(key)
-            self.assertEqual(seen.texts(".hint"), ["Front right, not sent yet: 8-14 → 71-77, free. Enter sends it; "
-                                                   "Escape leaves it where it was."])
+            self.assertEqual(seen.texts(".hint"), ["Front right, not sent yet: slots 8-14 → 71-77, free. Enter sends "
+                                                   "it; Escape leaves it where it was. Send Cancel"])
             # Above another one it is lifted and low, so that both their names are seen.
             for key in ("ArrowUp", "ArrowUp", "Home"):
                 seen.key(key)
@@ -455,7 +425,8 @@ class OtherViews(BrowserTestCase):
                 const {{ left, top, height }} = range.getBoundingClientRect();
                 return document.elementFromPoint(left + 9, top + height / 2).dataset.uid;
             }})"""), [RIGHT, LEFT])
-            self.assertTrue(seen.texts(".hint")[0].endswith(" Enter asks; Escape leaves it where it was."))
+            self.assertTrue(seen.texts(".hint")[0].endswith(
+                " Enter asks; Escape leaves it where it was. Send Cancel"))
             seen.key("Escape")
             self.assertIn("Drag a fixture", seen.texts(".hint")[0])
             for _ in range(3):
@@ -504,13 +475,13 @@ class OtherViews(BrowserTestCase):
         seen.button("Slots")
         away = f"button.away[data-uid='{BACK}']"
         seen.until(f"document.querySelector(\"{away}\")?.textContent === 'Back truss (missing)'")
-        self.assertIn("497 slots are free, 1 shared.", seen.texts("main p"))
+        self.assertIn("497 of 512 slots (DMX channels) are free, 1 shared.", seen.texts("main p"))
         seen.page.value(f"document.querySelector(\"{away}\").focus()")
         seen.key("ArrowRight")
         seen.page.value(f"document.querySelector(\"button[data-uid='{RIGHT}']\").focus()")
         for key in ["ArrowDown"] * (12 if size == PHONE else 3) + ["ArrowLeft"] * 5:
             seen.key(key)
-        self.assertIn("Front right, not sent yet: 8-14 → 99-105, overlaps “Back truss (missing)”. Enter asks; ",
+        self.assertIn("Front right, not sent yet: slots 8-14 → 99-105, overlaps “Back truss (missing)”. Enter asks",
                       seen.texts(".hint")[0])
         seen.key("Enter")
         seen.until("document.querySelector('.message')?.innerText.includes('“Back truss (missing)” 100')")
@@ -549,13 +520,14 @@ class OtherViews(BrowserTestCase):
             seen.until("document.querySelector('.count')?.textContent === '4 found, 2 missing'")
             self.assertTrue(seen.texts(".result.bad")[0].endswith(
                 " Missing: “Back truss”, “Lost” (in the file, not in the list). Discovery says more."))
+            self.assertEqual(seen.texts(".result.bad a"), ["Back truss", "Discovery"])
             # The file has only one of them, and none of those that are there.
             seen.until("[...document.querySelectorAll('.tools a')].map((each) => each.textContent).join() === "
                        "'rig.csv: 1 of its fixtures missing, 4 not in it, 2 overlaps on the line now'")
             # Nor does its own page, which leads to what is known.
             seen.click(f"{row(BACK)} .more")
             seen.until("document.querySelector('article .result.bad')?.textContent.startsWith('Something that ')")
-            seen.click("article .result a")
+            seen.click("article .result a:last-of-type")
             seen.until(f"{sections}['Missing']?.includes('Back truss (') && {sections}['Missing'].includes('Lost (')")
 
     @at_each_size

@@ -20,6 +20,10 @@ from web_pages import (
     row, web_on, window,
 )
 
+CLOSED = ["This link doesn't open the page",
+          "What comes after the # in it is a key, which is missing or was replaced. Ask whoever started “wurstlinen "
+          "web” for the link that it has printed, and open that one."]
+
 
 @needs_chromium
 @needs_library
@@ -210,13 +214,26 @@ class Always(BrowserTestCase):
     def test_no_token(self) -> None:
         with five() as (web, _), window(web.address.partition("#")[0]) as seen:
             seen.page.call("Page.navigate", url=seen.address)
-            seen.until("document.querySelector('#status')?.textContent.includes('no token')")
+            seen.until("document.querySelector('#status')?.textContent === \"Not connected: this link isn't whole.\"")
+            self.assertIn("open that one", seen.texts("article.notice")[0])
         with five() as (web, _), window(web.address.partition("#")[0] + "#wrong") as seen:
             seen.page.call("Page.navigate", url=seen.address)
             seen.until("document.querySelector('#status')?.textContent.includes('ask whoever started')")
             # Nothing is known, so nothing is said of fixtures, nor that it is old.
-            self.assertEqual(seen.page.value("document.querySelector('main').textContent"), "Fixtures")
+            self.assertEqual(seen.texts("main *"), ["Fixtures", "\n\n".join(CLOSED), *CLOSED])
+            self.assertEqual(seen.texts("nav, button"), [])
             self.assertNotIn("old", seen.texts("#status")[0])
+            # It isn't white where the page isn't.
+            for scheme in ("light", "dark"):
+                seen.page.call("Emulation.setEmulatedMedia", features=[
+                    {"name": "prefers-color-scheme", "value": scheme}])
+                colours = seen.page.value("""["body", ".notice"].map((each) =>
+                    getComputedStyle(document.querySelector(each)).backgroundColor)""")
+                self.assertEqual(len(set(colours)), 2)
+                self.assertEqual("rgb(255, 255, 255)" in colours, scheme == "light")
+                for name, rule in RULES.items():
+                    # There is nowhere to go.
+                    self.assertIn(seen.page.value(rule), ([], ["nav"]), (scheme, name))
 
     def test_keys_alone_reach_everything(self) -> None:
         for view in ("fixtures", "slots", "file", f"fixture/{BACK}", "discovery", "line"):

@@ -11,7 +11,7 @@ from browser import needs_chromium
 from common import needs_library, scene
 from fronts import called
 from web_pages import (
-    BACK, DESK, FIVE, HOUSE, LEFT, PHONE, RIGHT, BrowserTestCase, Moody, at_each_size, many, opened, row, web_on,
+    BACK, DESK, FIVE, HOUSE, LEFT, PHONE, RIGHT, BrowserTestCase, Moody, at_each_size, many, opened, row, way, web_on,
     window,
 )
 from wurstlinen.tool.places import program
@@ -53,7 +53,10 @@ class Clear(BrowserTestCase):
             events.until(lambda parts: parts[f"fixture/{RIGHT}"]["address"] == 60)
             seen.until(f"!({WAITS}) && document.querySelector('#undo:enabled')")
             seen.until("!document.querySelector('.busy')")
-            self.assertEqual(seen.texts(".leave"), ["✕"] if size == PHONE else [])
+            # What was sent isn't taken back by a cross, which comes with what is typed.
+            self.assertEqual(seen.texts(".leave"), [])
+            seen.type("61")
+            seen.until(f"document.querySelectorAll('.leave').length === {int(size == PHONE)}")
 
     @at_each_size
     def test_new_fixtures_that_are_all_at_one_address(self, size: Tuple[int, int]) -> None:
@@ -67,10 +70,11 @@ class Clear(BrowserTestCase):
             # Nothing is cut off of what tells them apart, and no other one's UID seems to be a row's.
             seen.button("Fixtures")
             seen.until("document.querySelectorAll('.rig .label:enabled').length === 40")
-            wanted = "uid + ', Simulated fixture at 1'" if size == PHONE else "'Simulated fixture at 1, ' + uid"
-            seen.until(f"""[...document.querySelectorAll("tbody tr")].every(({{ id: uid, children }}) =>
-                children[1].firstChild.placeholder === {wanted}
+            seen.until("""[...document.querySelectorAll("tbody tr")].every(({ id: uid, children }) =>
+                children[1].firstChild.placeholder === "Simulated fixture at 1"
+                && children[6].textContent === uid && children[6].offsetWidth >= children[6].scrollWidth
                 && children[7].querySelector("span").textContent === "overlaps 39 others")""")
+            self.assertEqual(len(set(seen.texts("td.uid"))), 40)
 
     @at_each_size
     def test_a_discovery_with_a_liar(self, size: Tuple[int, int]) -> None:
@@ -128,6 +132,50 @@ class Clear(BrowserTestCase):
             self.assertNotIn("Missing", seen.page.value(SECTIONS))
             self.assertTrue(seen.texts(".result")[0].startswith(f"Take Liar ({LIAR}) off the line, and "))
 
+    def test_slots_by_finger(self) -> None:
+        with opened(PHONE, "slots") as (seen, web, _), web.follow() as events:
+            piece = f"button[data-uid='{RIGHT}']"
+            seen.until(f"document.querySelector(\"{piece}\")")
+            at = seen.page.value(f"""(() => {{ document.querySelector("{piece}").scrollIntoView({{block: "center"}});
+                const box = document.querySelector("{piece}").getBoundingClientRect();
+                return [box.left + 8, box.top + 8]; }})()""")
+            # It is taken where its name is, which has no room in slot 8, the last one of its row.
+            by_the_way, there = way(seen, 9, 9 + 17), way(seen, 9, 9 + 48)
+
+            def touch(kind: str, dx: float = 0, dy: float = 0) -> None:
+                points = [] if kind == "touchEnd" else [{"x": at[0] + dx, "y": at[1] + dy}]
+                seen.page.call("Input.dispatchTouchEvent", type=kind, touchPoints=points)
+
+            # The first touch only selects it.
+            touch("touchStart")
+            touch("touchEnd")
+            seen.until(f"document.activeElement?.dataset.uid === '{RIGHT}'")
+            touch("touchStart")
+            touch("touchMove", *by_the_way)
+            touch("touchMove", *there)
+            touch("touchEnd")
+            # Nobody sees what a finger covers, so letting go sends nothing.
+            seen.until("document.querySelector('.hint').innerText === 'Front right, not sent yet: slots 8-14 → 56-62, "
+                       "free. Send Cancel'")
+            seen.button("Cancel")
+            seen.until("!document.querySelector('.piece.moving')")
+            # It is dragged on from where it is.
+            seen.page.value(f"document.querySelector(\"{piece}\").focus()")
+            at[:] = seen.page.value(f"""(() => {{ document.querySelector("{piece}").scrollIntoView({{block: "center"}});
+                const box = document.querySelector("{piece}").getBoundingClientRect();
+                return [box.left + 8, box.top + 8]; }})()""")
+            touch("touchStart")
+            touch("touchMove", *by_the_way)
+            touch("touchEnd")
+            seen.until("document.querySelector('.hint').innerText.includes(' → 25-31, free. Send')")
+            at[:] = at[0] + by_the_way[0], at[1] + by_the_way[1]
+            touch("touchStart")
+            touch("touchMove", there[0] - by_the_way[0], there[1] - by_the_way[1])
+            touch("touchEnd")
+            seen.until("document.querySelector('.hint').innerText.includes(' → 56-62, free. Send')")
+            seen.button("Send")
+            events.until(lambda parts: parts.get(f"fixture/{RIGHT}", {}).get("address") == 8 + 48)
+
     def test_what_is_selected_by_a_finger(self) -> None:
         with opened(PHONE, "slots") as (seen, _, _rig):
             seen.until(f"document.querySelector(\"button[data-uid='{HOUSE}']\")")
@@ -135,7 +183,7 @@ class Clear(BrowserTestCase):
             self.assertGreaterEqual(seen.page.value("document.querySelector('.universe i').offsetWidth"), 44)
             seen.tap(f"button[data-uid='{HOUSE}']")
             seen.until("document.querySelector('.hint').textContent === "
-                       "'House lights, 1: drag it, or type its address.'")
+                       "'House lights, slot 1: drag it, or type its address.'")
             style = f"getComputedStyle(document.querySelector(\"button[data-uid='{HOUSE}']\")).outlineStyle"
             self.assertEqual(seen.page.value(style), "solid")
             # A finger that lets go over the old place moves nothing.
@@ -147,8 +195,7 @@ class Clear(BrowserTestCase):
                 seen.page.call("Input.dispatchTouchEvent", type=kind, touchPoints=points)
                 if place is other:
                     seen.until("document.querySelector('.hint').textContent === "
-                               "'House lights, not sent yet: 1 → 25, free. "
-                               "Letting go sends it; over its old place, in yellow, leaves it.'")
+                               "'House lights, not sent yet: slot 1 → 25, free. Let go to send or cancel it.'")
                     self.assertEqual(seen.page.value("document.querySelectorAll('.universe .old').length"), 1)
             self.assertEqual(seen.texts(".message"), [])
             # One that is farther away than the screen is typed.
@@ -164,7 +211,7 @@ class Clear(BrowserTestCase):
             seen.until(f"document.querySelector(\"{row('4444:00000001')}\")?.textContent.includes('unknown')")
             seen.open("slots")
             seen.until("document.querySelector('main > p')?.textContent === "
-                       "'497 slots are free, 1 shared, those of 1 fixture unknown.'")
+                       "'497 of 512 slots (DMX channels) are free, 1 shared, those of 1 fixture unknown.'")
 
     def test_slots_overlap_as_the_command_check_says(self) -> None:
         # Two parts of one device may share a slot; a third fixture overlaps each of them.
@@ -176,7 +223,7 @@ class Clear(BrowserTestCase):
             for address, shared in ((20, 0), (51, 3), (1, 1)):
                 web.call("change", uid=LEFT, column="address", value=str(address), force=True)
                 seen.until(f"document.querySelector('main > p').textContent.includes("
-                           f"'slots are free{f', {shared} shared' if shared else ''}.')")
+                           f"'(DMX channels) are free{f', {shared} shared' if shared else ''}.')")
                 out = called("check", "-", "--json", "--line", "rig:/it", text="uid\n")[1]
                 said = [each for each in map(json.loads, out.splitlines()) if each.get("difference") == "overlap"]
                 self.assertEqual(seen.page.value("document.querySelectorAll('.problems li').length"), len(said))
@@ -195,8 +242,9 @@ class Clear(BrowserTestCase):
             hidden = "[...document.querySelectorAll('.problems li')].map((each) => getComputedStyle(each).visibility)"
             # What others overlap stays, and nothing seems to be done.
             self.assertEqual(seen.page.value(hidden), ["hidden", "hidden", "visible"])
-            self.assertEqual(seen.texts("main > p")[0], "497 slots are free, 1 shared, once this is sent.")
-            self.assertIn("Front left, not sent yet: 1-7 → 33-39, free.", seen.texts(".hint")[0])
+            self.assertEqual(seen.texts("main > p")[0],
+                             "497 of 512 slots (DMX channels) are free, 1 shared, once this is sent.")
+            self.assertIn("Front left, not sent yet: slots 1-7 → 33-39, free.", seen.texts(".hint")[0])
             # What is dragged stays under the finger.
             self.assertEqual(seen.page.value(top), before)
             seen.key("Escape")
@@ -252,15 +300,18 @@ class Clear(BrowserTestCase):
         with opened(DESK, "discovery") as (seen, web, rig):
             seen.until("document.querySelector('.result')?.textContent.startsWith('5 fixtures found with')")
             # The result of the one before says whose it is.
-            seen.page.value("""new MutationObserver(() =>
+            seen.page.value("""window.said = "", new MutationObserver(() => (said += document.body.textContent,
                 /^(?!Before|$)/.test(document.querySelector(".result").textContent)
-                && (window.both ??= []).push(document.querySelector("main > p[role=status]").textContent))
+                && (window.both ??= []).push(document.querySelector("main > p[role=status]").textContent)))
                 .observe(document.body, { childList: true, subtree: true, characterData: true })""")
             rig.gone.add(rig.fixtures[2].uid)
             web.call("discover")
             seen.until("document.querySelector('.result')?.textContent.startsWith('4 fixtures found with')")
             seen.until(f"{SECTIONS}['Missing']?.includes('Back truss')")
             self.assertEqual([each for each in seen.page.value("window.both") if "so far" in each], [])
+            # A run that has begun doesn't say that there is nothing.
+            self.assertRegex(seen.page.value("said"), r"Discovery 2: \d+ messages? so far")
+            self.assertNotIn("0 fixtures", seen.page.value("said"))
 
     @at_each_size
     def test_a_file_in_a_page_that_is_view_only(self, size: Tuple[int, int]) -> None:
@@ -303,6 +354,8 @@ class Clear(BrowserTestCase):
                 seen.until(f"document.querySelector('main.{view} a')")
                 tall = "[...document.querySelectorAll('{}')].map((each) => each.getBoundingClientRect().height)"
                 self.assertGreaterEqual(min(seen.page.value(tall.format("main a"))), 24, view)
+                # Which exchange shows what is small, and only where a discovery is looked at.
+                self.assertEqual("exchange" in "".join(seen.texts("main")), view == "discovery")
                 if alone:
                     seen.until(f"document.querySelector('{alone}')")
                     self.assertGreaterEqual(min(seen.page.value(tall.format(alone))), 44, view)

@@ -235,10 +235,11 @@ class Typing(BrowserTestCase):
             seen.page.value(f"document.querySelector(\"{piece}\").focus()")
             seen.key("ArrowRight")
             web.call("change", uid=RIGHT, column="address", value="300")
-            seen.until(f"document.querySelector(\"button[data-uid='{RIGHT}']\").ariaLabel.includes('slots 300 to')")
+            seen.until(f"document.querySelector(\"button[data-uid='{RIGHT}']\").ariaLabel.includes('slots 300-')")
             seen.key("ArrowRight")
             self.assertEqual(seen.texts(".hint"), [
-                "Back truss, not sent yet: 100 → 102, free. Enter sends it; Escape leaves it where it was."])
+                "Back truss, not sent yet: slot 100 → 102, free. Enter sends it; Escape leaves it where it was. "
+                "Send Cancel"])
             x, y = seen.page.value(f"(({{left, top}}) => [left + 8, top + 8])(document.querySelector(\"{piece}\")"
                                    ".getBoundingClientRect())")
             seen.page.call("Input.dispatchMouseEvent", type="mousePressed", x=x, y=y, button="left", clickCount=1)

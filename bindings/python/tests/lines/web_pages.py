@@ -285,6 +285,14 @@ class Window:
         return self.page.value(f"document.querySelector({json.dumps(what)})?.value")
 
 
+def way(seen: Window, from_slot: int, to_slot: int) -> Tuple[float, float]:
+    """How far it is from one slot to another."""
+    x, y = seen.page.value(f"""(() => {{ const [from, to] = [{from_slot}, {to_slot}].map((slot) =>
+        document.querySelectorAll(".universe i")[slot - 1].getBoundingClientRect());
+        return [to.left - from.left, to.top - from.top]; }})()""")
+    return x, y
+
+
 @contextlib.contextmanager
 def window(address: str, size: Tuple[int, int] = DESK) -> Iterator[Window]:
     """A browser, for the duration of a `with`."""

@@ -42,9 +42,9 @@ OUTCOMES = {
     Outcome.FAILED: ("The discovery failed.", "{} of {} discoveries failed."),
 }
 BROKEN, UNBROKEN, NO_DISCOVERY = "A rule was broken.", "No broken rule was seen.", "No discovery."
-# The judgements by which a rule was broken, whichever devices are there; the one on a listed device, if only by
-# silence; and the one on a device that did all as it should.
-BREAKS, BROKE, GARBLED, GOOD = ("stray", "unmuted", "garbled"), "broke", "garbled", "found"
+# The judgements by which a rule was broken, whichever devices are there; and the one on a listed device, if only by
+# silence.
+BREAKS, BROKE, GARBLED = ("stray", "unmuted", "garbled"), "broke", "garbled"
 # The judgement on a part of the certificate that fails, which may be about a range of UIDs.
 GAP = "gap"
 # The judgements on bytes that read as a device's, which need not have sent them.
@@ -161,24 +161,15 @@ def findings_of(log: Sequence[str], expected: Sequence[Uid]
     about = [(None if number is None else Uid.from_number(number), each)
              for number, each in said.of_uids({uid.number for uid in expected})]
     reasons = {uid: each.text.removeprefix(f"{uid} ") for uid, each in about if uid is not None}
-    # Who breaks a rule may answer for others, and then these are nobody.
-    breaks = {each: spoken(log, each) or uid for uid, each in about
+    # Who breaks a rule may answer for others, which then are nobody: whose reply to a branch it is counts, if it is one.
+    replies = {each: decode_branch_reply(bytes.fromhex(json.loads(log[1 + each.place]).get("reply", "")))
+               for _, each in about if each.place is not None}
+    breaks = {each: uid if (number := replies.get(each)) is None else Uid.from_number(number) for uid, each in about
               if each.judgement in BREAKS or (each.judgement == BROKE and each.is_found)}
-    broken = {who: each.text.removeprefix(f"{who} ") for each, who in breaks.items() if who is not None}
-    others = {uid: reasons[uid] for uid, each in about
-              if uid is not None and each.judgement != GOOD and each not in breaks}
+    broken = {str(who): each.text.removeprefix(f"{who} ") for each, who in breaks.items() if who is not None}
     return said, reasons, {
-        "devices": [{"uid": str(uid), "text": text, "is_broken": uid in broken}
-                    for uid, text in {**others, **broken}.items()],
-        "others": [each.text for uid, each in about if uid is None and breaks.get(each) is None],
-        "is_broken": said.is_broken, "missing": said.missing()}
-
-
-def spoken(log: Sequence[str], found: Finding) -> Optional[Uid]:
-    """Whose reply to a branch the bytes are that a finding is about, if they are one."""
-    entry = {} if found.place is None else json.loads(log[1 + found.place])
-    number = decode_branch_reply(bytes.fromhex(entry.get("reply", "")))
-    return None if number is None or is_broadcast(number) else Uid.from_number(number)
+        "devices": [{"uid": uid, "text": text} for uid, text in broken.items()], "is_broken": said.is_broken,
+        "missing": said.missing(), "others": [each.text for uid, each in about if uid is breaks.get(each) is None]}
 
 
 def run_findings(run: Dict[str, Any], place: int) -> List[Finding]:

@@ -10,13 +10,11 @@ import * as slots from "/slots.js";
 
 const views = { fixtures, slots, file, discovery, line, fixture };
 const TITLES = { fixtures: "Fixtures", slots: "Slots", file: "File", discovery: "Discovery", line: "Line" };
-const MESSAGE_TIME = 6_000;
-// A press that was meant for what was there before a question comes sooner.
-const DEAF_TIME = 600;
+// A press that was meant for what was there before a question comes sooner than the second one.
+const MESSAGE_TIME = 6_000, DEAF_TIME = 600;
 // What is under way, by names; for an input, the value that is on its way.
 export const busy = new Map();
 let message = null, place = "";
-
 export const addressOf = (view, rest = "") => `#${token}/${view}${rest ? `/${rest}` : ""}`;
 
 // Says what happened. What went wrong stays until somebody has read it, with what is said meanwhile.
@@ -43,7 +41,6 @@ function close() {
     (document.activeElement === document.body ? from : document.activeElement).focus();
 }
 
-// Shows that something is under way.
 export async function busily(name, work, value = null) {
     redraw(busy.set(name, value));
     await work();
@@ -79,7 +76,7 @@ export async function act(name, keys, done = "") {
 
 function statusText(now) {
     const mode = now?.paused ? "paused: no RDM request is sent" : parts.get("role") === "looks" && "view only";
-    return token === "" ? "This link has no token: ask whoever started the page for the whole link."
+    return token === "" ? "Not connected: this link isn't whole."
         : lost || !now ? `Not connected: ${lost || "no line so far"}.${parts.size ? " What you see is old." : ""}`
             : now.there ? [mode === "view only" && mode, now.name, now.paused && mode].filter(Boolean).join(" · ")
                 : now.served ? `${now.name}: adapter unplugged, waiting for it; what you see is old`
@@ -93,22 +90,28 @@ export const undo = (last) => act("undo", { text: last.text }, `Undone: ${backTe
 
 function header(name) {
     const last = parts.get("undo"), now = parts.get("line"), isBad = !token || lost || !now?.there || now.paused;
-    // Which fixtures show themselves, and how all of them stop.
     const all = partsOf("fixture/").filter((found) => found.identifies && !found.missing);
     const names = all.map(fixtures.placedNameOf).join(", ");
     const said = make("span", {}, all.length > 1 ? `${all.length} identify: ${names}` : `${names} identifies`);
     const stop = all.length > 0 && button([said, " ", make("b", {}, "Stop")], () => all.forEach(({ uid }) =>
         act("identify", { uid, on: false })), { id: "stop", title: names, disabled: !maySend() });
+    const undone = last && make("span", {}, ` ${fixtures.nameOf(fixtureOf(last.uid)) || last.uid}: ${last.back}`);
     const isOwn = maySend() && parts.get("clients")?.some(({ paused, is_page: isPage }) => paused && isPage);
     const where = now?.paused && !lost && make("a", { href: addressOf("line") }, isOwn ? " Resume it in Line"
         : " Line says who paused");
     return make("header", {}, make("h1", {}, "Wurstlinen"),
         make("p", { id: "status", role: "status", class: classes(isBad && "bad") }, statusText(now), where),
-        stop, button(last ? `Undo (${last.count})` : "Undo", () => say(`Undo: ${backText(last)}?`, { actions: [{ text:
-            "Undo", act: () => undo(last) }] }), { id: "undo", disabled: !mayUndo() || !last }),
+        parts.size > 0 && [stop, button([make("b", {}, "Undo"), undone], () => say(`Undo: ${backText(last)}?`,
+            { actions: [{ text: "Undo", act: () => undo(last) }] }), { id: "undo", title: last && backText(last),
+            disabled: !mayUndo() || !last }),
         make("nav", { "aria-label": "Views" }, Object.entries(TITLES).map(([each, title]) => make("a",
-            { href: addressOf(each), "aria-current": each === name ? "page" : null }, title))));
+            { href: addressOf(each), "aria-current": each === name ? "page" : null }, title)))]);
 }
+
+// What there is in place of a view for somebody who isn't let in.
+const closed = () => (!token || lost.includes("link")) && make("article", { class: "notice" }, make("h2", {},
+    "This link doesn't open the page"), make("p", {}, "What comes after the # in it is a key, which is missing or was "
+    + "replaced. Ask whoever started “wurstlinen web” for the link that it has printed, and open that one."));
 
 function messages() {
     const { isBad, actions, text, isDeaf: disabled } = message ?? {};
@@ -127,7 +130,7 @@ export function draw() {
         document.title = `${TITLES[name] ?? uid} · Wurstlinen`;
     }
     show(document.body, [header(name), make("main", { id: "view", key: place, class: name, tabindex: "-1" },
-        TITLES[name] && make("h2", { class: "hidden" }, TITLES[name]), parts.size ? views[name].view(uid) : []),
+        TITLES[name] && make("h2", { class: "hidden" }, TITLES[name]), parts.size ? views[name].view(uid) : closed()),
     messages()]);
     if (before && place !== before) {
         document.getElementById("view").focus();

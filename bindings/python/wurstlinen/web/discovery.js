@@ -4,47 +4,39 @@ import { button, classes, make, plural } from "/dom.js";
 import { DETAIL, UID, advised, linked, nameOf, named, withoutAdvice } from "/fixtures.js";
 import { fixtureOf, maySend, parts, partsOf } from "/server.js";
 
-// More aren't named in a sentence.
-const MOST_NAMED = 3;
-const devicesOf = (last) => last?.devices ?? [];
-const listed = (all) => [...all.slice(0, MOST_NAMED).map(({ uid }, at) => [at > 0 && ", ", linked(uid)]),
-    all.length > MOST_NAMED && ` and ${all.length - MOST_NAMED} more`];
-
+const listed = (all) => [all.slice(0, 3).map(({ uid }, at) => [at > 0 && ", ", linked(uid)]),
+    all.length > 3 && ` and ${all.length - 3} more`];
 // Who did something wrong: what was seen, which isn't known at once, or else whom the fault names.
 function wrongOf(last) {
-    const seen = devicesOf(last).filter((each) => each.is_broken), uids = last && "picture" in last && last.fault;
-    return seen.length ? seen : ((uids || "").match(UID) ?? []).map((uid) => ({ uid, text: last.fault }));
+    const { devices = [], fault, picture = null } = last ?? {}, uids = picture !== null && fault?.match(UID);
+    return devices.length ? devices : (uids || []).map((uid) => ({ uid, text: fault }));
 }
 
 // What is to be done about them. Only those of the list can be told from others.
-const TAKE = "off the line, and discover again", FIND = "discover again. If it still does, unplug half of the line, and "
-    + "discover again, to find it";
-function ordersOf(wrong) {
-    const known = wrong.filter(({ uid }) => fixtureOf(uid)), strange = wrong.filter(({ uid }) => !fixtureOf(uid));
-    return [known.length > 0 && ["Take ", listed(known), ` ${TAKE}. `], strange.length > 0
-        && ["Something that isn't in the list answers wrongly, as ", listed(strange), `: ${FIND}. `]];
-}
-
+const TAKE = "off the line, and discover again";
+const FIND = "discover again. If it still does, unplug half of the line, and discover again, to find it";
 function resultText(last) {
     const found = `${plural(last.found, "fixture")} found with ${plural(last.frames, "message")}`;
-    const isOld = isUnderWay(last), wrong = wrongOf(last), which = isOld ? "The one before was" : "The discovery is";
-    const why = last.fault && !wrong.length ? `: ${named(withoutAdvice(last.fault))}` : "";
+    const isOld = isUnderWay(last), wrong = wrongOf(last), why = last.fault && !wrong.length
+        ? `: ${named(withoutAdvice(last.fault))}` : "";
+    const known = wrong.filter(({ uid }) => fixtureOf(uid)), strange = wrong.filter((each) => !known.includes(each));
     // While another one is under way nothing is advised.
     return [isOld ? ["Before this discovery: ", wrong.length > 0 && [listed(wrong), " did something wrong. "]]
-        : ordersOf(wrong), last.fault ? `${which} incomplete${why}. ${found}.` : last.missing ? `${found}. ${last.missing}`
-        : last.is_broken ? `${found}; a rule was broken, so others may be missing.`
-            : last.found ? `${found}; nothing else can be on this line if it is honest: if all on it keep RDM's rules.`
+        : [known.length > 0 && ["Take ", listed(known), ` ${TAKE}. `], strange.length > 0
+            && ["Something that isn't in the list answers wrongly, as ", listed(strange), `: ${FIND}. `]],
+    last.fault ? `${isOld ? "The one before was" : "The discovery is"} incomplete${why}. ${found}.`
+        : last.missing ? `${found}. ${last.missing}`
+            : last.is_broken ? `${found}; a rule was broken, so others may be missing.` : last.found
+                ? `${found}; nothing else can be on this line if it is honest: if all on it keep RDM's rules.`
                 : `${found}${isOld ? "" : ": check the adapter and the first cable"}.`];
 }
 
 const isBad = (last) => Boolean(last?.fault || last?.is_broken);
 // Those that are missing: of the list, and then those of the file that is loaded which aren't in the list.
 export function absent() {
-    const planned = (parts.get("file")?.differences ?? []).filter(({ kind, uid }) => kind === "missing"
-        && !fixtureOf(uid)).map((each) => ({ ...each,
-        ...devicesOf(parts.get("discovery")).find(({ uid }) => uid === each.uid) }));
+    const wrong = wrongOf(parts.get("discovery")).map(({ uid }) => uid), planned = parts.get("file")?.differences ?? [];
     return [...partsOf("fixture/").filter((found) => found.missing).map((found) => ({ ...found, text: found.missing })),
-        ...planned.filter((each) => !each.is_broken)];
+        ...planned.filter(({ kind, uid }) => kind === "missing" && !fixtureOf(uid) && !wrong.includes(uid))];
 }
 
 // What other views say of a discovery that is incomplete.

@@ -1,7 +1,7 @@
 // A saved file: what differs from it, and what makes the fixtures as it says.
 import { act, asked, say } from "/app.js";
 import { button, classes, make, plural } from "/dom.js";
-import { differencesOf, linked, named } from "/fixtures.js";
+import { DETAIL, differencesOf, linked, named } from "/fixtures.js";
 import { maySend, mayUse, parts } from "/server.js";
 
 async function save() {
@@ -44,7 +44,7 @@ function differences(file) {
         : "nothing differs."}`), make("p", {}, note),
     make("ul", { class: "differences" }, found.map(({ kind, uid, text }) => make("li", { class: classes(
         ["missing", "overlap", "end"].includes(kind) && "bad") }, make("b", {},
-        kind === "new" ? "not in the file: " : `${kind}: `), linked(uid), `, ${text}`)))];
+        kind === "new" ? "not in the file: " : `${kind}: `), linked(uid), `, ${text.replace(DETAIL, "")}`)))];
 }
 
 export function view() {

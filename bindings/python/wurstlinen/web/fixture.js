@@ -2,7 +2,7 @@
 import { act, addressOf, busily, busy, redraw, say } from "/app.js";
 import { alarm } from "/discovery.js";
 import { button, classes, make } from "/dom.js";
-import { SENDING, changeOf, editor, identifier, nameOf, notesOf, ordered, remarksOf, send, slotsOf, valueOf, walk }
+import { SENDING, changeOf, editor, identifier, nameOf, notesOf, ordered, remarksOf, send, slotsText, valueOf, walk }
     from "/fixtures.js";
 import { fixtureOf, maySend, mayUse, parts } from "/server.js";
 
@@ -46,16 +46,15 @@ function formOf(uid, { parameter, about, acts, fields }) {
 // A section stays, with what somebody types in its forms, whatever its values are. Some titles come again.
 function sectionOf(uid, name, all, forms) {
     // Its switch says whether it identifies now.
-    const rows = all.filter(([title]) => title.replaceAll("_", " ") !== "identify device");
-    const found = rows.map(([title]) => (mayUse() && forms[title.replaceAll("_", " ")]) || null);
-    return make("section", { key: name }, make("h3", {}, name), make("dl", {}, rows.map(([title, text], at) =>
-        make("div", { key: rows.findIndex(([each]) => each === title) === at ? title : at },
-            make("dt", {}, title.replaceAll("_", " ")),
-            make("dd", {}, text || (found[at] ? "" : "can't be shown here"), found[at] && formOf(uid, found[at]))))));
+    const rows = all.map(([title, text]) => [title.replaceAll("_", " "), text])
+        .filter(([title]) => title !== "identify device");
+    return rows.length > 0 && make("section", { key: name }, make("h3", {}, name), make("dl", {},
+        rows.map(([title, text], at) => make("div", { key: rows.findIndex(([each]) => each === title) === at ? title
+            : at }, make("dt", {}, title === "slots" ? "at slots" : title), make("dd", {}, text || (mayUse()
+            && forms[title] ? "" : "can't be shown here"), mayUse() && forms[title] && formOf(uid, forms[title]))))));
 }
 
 const readAll = (uid) => busily(`${asked = uid}/show`, () => act("show", { uid }));
-
 const nudge = ({ uid, address, missing }, text, by, where) => button(text, () => send(uid, "address",
     String(Number(valueOf(uid, "address")) + by)), { class: "nudge", "aria-label": `Address one ${where}`,
     disabled: !maySend() || !address || Boolean(missing) });
@@ -70,7 +69,7 @@ export function view(uid) {
     maySend() && asked !== uid && !isOver && readAll(uid);
     const isReading = busy.has(`${uid}/show`) || isOver === false, notes = notesOf(found);
     const field = (text, column) => make("label", { class: "field" }, make("span", {}, text), editor(found, column));
-    const about = [found.manufacturer, found.model, uid, found.first && `at slot ${slotsOf(found)}`].filter(Boolean);
+    const about = [found.manufacturer, found.model, uid, found.first && slotsText(found)].filter(Boolean);
     const steps = [["‹ Previous", -1], [found.identifies && maySend() ? "Identify next ›" : "Next ›", 1]]
         .map(([text, by]) => button(text, () => go(uid, by), { class: "main" }));
     const short = ([title, text]) => `${title.replace(/^\d+ /, "")} ${text.split(" (")[0]}`.trim();

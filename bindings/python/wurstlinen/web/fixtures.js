@@ -10,8 +10,6 @@ export const SENDING = isTouched ? "Leaving a box sends what you typed; ✕ befo
     : "Enter, or leaving a field, sends what you typed; Escape before that restores it.";
 const WALKING = "Identify next stops the one before it; it goes through what is shown, in this order.";
 const PAUSED = "RDM is paused: what you send, Identify and Stop wait until it is resumed. Undo waits for that, too.";
-// More aren't named.
-const MOST_OVERLAPS = 3;
 const chosen = { filter: "", column: "address", isDown: false };
 // The fixture to which this page's walk has come, which the page's program may not have shown so far.
 let walked = null;
@@ -30,7 +28,6 @@ export const DETAIL = / \(exchange [^)]*\)/;
 export const withoutAdvice = (text) => text
     .replace(/[:;] (first |if it happens again, )?(check|name it|see|split|take) .*?(?= \(exchange |$)/, "");
 export const advised = (text) => (isUnderWay() ? withoutAdvice(text) : text);
-
 // The name of a fixture, which leads to it; or else its label in the file.
 export function linked(uid) {
     const found = fixtureOf(uid), planned = parts.get("file")?.differences.find((each) => each.uid === uid);
@@ -53,7 +50,6 @@ export function freeFrom({ root, first, last }, wanted) {
     return all.find((at) => at >= wanted) ?? all[0] ?? 0;
 }
 
-// What is wrong with a fixture, and what else is remarkable.
 export function notesOf({ uid, missing, notes }) {
     const problems = (parts.get("problems") ?? []).filter((each) => each.uid === uid || each.other === uid);
     const [ends, overlaps] = ["end", "overlap"].map((wanted) => problems.filter(({ kind }) => kind === wanted)
@@ -61,7 +57,7 @@ export function notesOf({ uid, missing, notes }) {
     const waits = parts.get("line")?.paused && [...busy.keys()].some((name) => name.startsWith(uid));
     return [waits && "waits until RDM is resumed, and can't be taken back before",
         missing && `missing: ${advised(missing)}`, ...notes.map((each) => each.replaceAll("_", " ")),
-        ...ends, ...(overlaps.length > MOST_OVERLAPS ? [`overlaps ${overlaps.length} others`] : overlaps)]
+        ...ends, ...(overlaps.length > 3 ? [`overlaps ${overlaps.length} others`] : overlaps)]
         .filter(Boolean);
 }
 
@@ -69,8 +65,8 @@ export const remarksOf = ({ uid, root, is_slow: isSlow }) => [root === uid ? "" 
     || root}`, isSlow ? "answers slowly" : ""].filter(Boolean);
 export const slotsOf = ({ first, last, slots, is_read: isRead }) => (first ? [...new Set([first, last])].join("-")
     : !isRead ? "…" : slots === null ? "unknown" : "none");
+export const slotsText = (found) => `slot${found.first && found.first === found.last ? "" : "s"} ${slotsOf(found)}`;
 
-// In the order in which they are shown.
 export function ordered() {
     const words = chosen.filter.toLowerCase().split(" ");
     const keyOf = (found) => String(found[chosen.column] ?? "").toLowerCase();
@@ -122,24 +118,23 @@ export function editor(found, column) {
     };
     const restore = ({ target }) => redraw(Object.assign(target, { value: valueOf(uid, column), isTyped: false }));
     const onkeydown = (event) => ({ Escape: restore, Enter: leaveIt })[event.key]?.(event);
-    // A phone has no Escape. The box isn't left before what was typed is gone. What is on its way can't be taken back.
+    // A phone has no Escape. The box isn't left before what was typed is gone. What was sent can't be taken back.
+    const own = document.activeElement, isTyped = own.name === name && own.isTyped;
     const leave = button("✕", ({ target: { previousSibling: target } }) => (restore({ target }), target.blur()),
         { class: "leave", onpointerdown: (event) => event.preventDefault(), "aria-label": "Leave it as it was" });
     return [make(isChoice ? "select" : "input", { ...busyAs(name, column), name, shown: valueOf(uid, column),
-        onkeydown, onchange: leaveIt, onblur: leaveIt, autocomplete: "off", spellcheck: "false",
+        onkeydown, oninput: redraw, onchange: leaveIt, onblur: leaveIt, autocomplete: "off", spellcheck: "false",
         "aria-label": `${COLUMNS[column]} of ${nameOf(found)}`, inputmode: column === "address" ? "numeric" : null,
-        maxlength: isLabel ? 128 : null, placeholder: isLabel && found.is_read
-            ? [...new Set(isTouched ? [uid, nameOf(found)] : [nameOf(found), uid])].join(", ") : null,
+        maxlength: isLabel ? 128 : null, placeholder: isLabel && found.is_read ? nameOf(found) : null,
         disabled: !maySend() || Boolean(found.missing) || !found.is_read
             || (isChoice && found.personalities.length < 2) }, isChoice ? personalitiesOf(found) : []),
-    isTouched && !isChoice && !busy.has(name) && leave];
+    isTouched && isTyped && !isChoice && leave];
 }
 
 // What was changed last, if it was here, and what takes it back.
 export const changeOf = ({ uid }, last = parts.get("undo")) => last?.uid === uid && button(`${last.made} · Undo`,
     () => undo(last), { class: "made", disabled: !mayUndo() });
 
-// The switch by which a fixture shows itself.
 export function identifier(found, size = "") {
     const { uid, identifies, missing } = found, name = `${uid}/identify`, on = !identifies;
     return button(identifies ? `Identifying${size && " · Stop"}` : "Identify", () => {
@@ -151,8 +146,7 @@ export function identifier(found, size = "") {
 
 // The walk: the next fixture shows itself, and the one before stops.
 export async function walk(from, step) {
-    const all = ordered().filter((found) => !found.missing);
-    const at = all.findIndex((found) => found.uid === from);
+    const all = ordered().filter((found) => !found.missing), at = all.findIndex((found) => found.uid === from);
     const next = all[at < 0 ? (step > 0 ? 0 : all.length - 1) : at + step];
     walked = next?.uid ?? null;
     const keys = next ? { uid: walked, on: true, only: true } : { uid: from, on: false };

@@ -3,8 +3,6 @@ import { act, say } from "/app.js";
 import { button, make, plural } from "/dom.js";
 import { mayUse, parts, partsOf } from "/server.js";
 
-const names = new Map();
-
 // Rows of texts, by the titles and the classes of their columns.
 function table(title, columns, rows) {
     return make("table", { class: "list" }, make("caption", {}, title),
@@ -14,6 +12,7 @@ function table(title, columns, rows) {
 }
 
 // A program that has gone keeps its name here.
+const names = new Map();
 function nameOf(client) {
     const { process, is_page: isPage, name } = parts.get("clients")?.find((each) => each.client === client) ?? {};
     process && names.set(client, isPage ? "this page" : name || `process ${process}`);
@@ -49,15 +48,15 @@ export function view() {
     const now = parts.get("line"), paused = Boolean(now?.paused), clients = programsOf(parts.get("clients") ?? []);
     const count = clients.reduce((sum, each) => sum + each.outstanding, 0);
     const last = partsOf("request/").sort((one, other) => other.at - one.at);
-    return [make("p", {}, now?.served ? `${now.name} is served by process ${now.process}, which sends as ${now.source}.`
-        : "No server runs."),
+    return [make("p", {}, now?.served ? `${now.name}: process ${now.process} sends for all programs, with the UID ${
+        now.source}.` : "No program sends for the others now."),
         make("div", { class: "tools" }, pauser(paused, clients, !mayUse() || !now?.served),
             make("p", { role: "status" }, waitingText(paused, count))),
         table("Programs", { Program: "name", Process: "process", Waiting: "waits", Pause: "paused" },
             clients.map((each) => ({ key: each.client, texts: [nameOf(each.client), String(each.process ?? "gone"),
                 waits(each.outstanding), each.paused ? "has paused" : ""] }))),
-        table("The last hundred requests", { Program: "name", Request: "command", Result: "answer" },
-            last.map((each) => ({ key: each.at, isBad: !each.is_good, texts: [nameOf(each.client),
-                each.command.replace(/(queued_message|status_messages) (\w+)$/, "$1 (status type $2)"), each.frames > 1
-                    ? `${each.answer} · ${each.frames} frames` : each.answer] })))];
+        table("The last hundred requests: GET asks, SET changes, ACK is yes, NACK is no", { Program: "name",
+            Request: "command", Result: "answer" }, last.map((each) => ({ key: each.at, isBad: !each.is_good,
+            texts: [nameOf(each.client), each.command.replace(/(queued_message|status_messages) (\w+)$/,
+                "$1 (status type $2)"), `${each.answer}${each.frames > 1 ? ` · ${each.frames} messages` : ""}`] })))];
 }

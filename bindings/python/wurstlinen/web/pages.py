@@ -41,6 +41,9 @@ PICTURE_HEADERS = {"Content-Security-Policy": "sandbox allow-scripts; frame-ance
 LOOPBACK = "127.0.0.1"
 TOKEN_BYTES = 16
 USES, LOOKS = "uses", "looks"
+# What JSON has for types of parameters that aren't texts there, and what is said of anything else.
+FORMS: Mapping[str, Tuple[type, str]] = {"bool": (bool, "is neither true nor false"),
+                                         "Sequence[str]": (list, "isn't a list")}
 
 
 @dataclass(frozen=True)
@@ -184,8 +187,3 @@ def arguments_of(call: Callable[..., object], keys: Keys) -> Keys:
         except Fault as wrong:
             raise BadRequest(f"{name}: {wrong}") from None
     return found
-
-
-# What JSON has for types of parameters that aren't texts there, and what is said of anything else.
-FORMS: Mapping[str, Tuple[type, str]] = {"bool": (bool, "is neither true nor false"),
-                                         "Sequence[str]": (list, "isn't a list")}

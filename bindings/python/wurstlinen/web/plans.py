@@ -61,9 +61,9 @@ class Plans:
         return self._rig.change(changes, force, dry)
 
     def follow(self) -> None:
-        """Compares whenever fixtures have changed, until the board's end."""
+        """Compares whenever fixtures, or what is known of them, have changed, until the board's end."""
         for parts in self._board.follow():
-            if any(name.startswith(PREFIX) for name in parts):
+            if any(name.startswith((PREFIX, "discovery")) for name in parts):
                 try:
                     self._compare()
                 except Exception as fault:  # Whatever it is, the next change is compared.

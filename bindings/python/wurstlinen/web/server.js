@@ -1,17 +1,13 @@
 // What the page's program shows, and what it is asked to do.
 
-const LATE = 12_000;
-const AGAIN = 1_000;
-const ABSENT = "the program of this page doesn't answer";
+const LATE = 12_000, AGAIN = 1_000, ABSENT = "the program of this page doesn't answer";
 
 // The address has it behind the #, which browsers send to nobody.
 export const token = location.hash.slice(1).split("/")[0];
+const headers = { Authorization: `Bearer ${token}` };
 // The parts that the program shows, by their names; and why these are old, if they are.
 export const parts = new Map();
 export let lost = "connecting";
-
-const headers = { Authorization: `Bearer ${token}` };
-
 export const partsOf = (prefix) => [...parts].filter(([name]) => name.startsWith(prefix)).map(([, value]) => value);
 export const fixtureOf = (uid) => parts.get(`fixture/${uid}`);
 export const mayUse = () => parts.get("role") === "uses" && !lost;

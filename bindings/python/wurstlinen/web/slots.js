@@ -1,27 +1,25 @@
 // The universe as 512 slots: who has which. Fixtures are moved by drag, or by keys.
 import { act, addressOf, draw, redraw } from "/app.js";
-import { classes, isTouched, make, plural } from "/dom.js";
+import { button, classes, isTouched, make, plural } from "/dom.js";
 import { alarm } from "/discovery.js";
-import { nameOf, placedNameOf, problemOf, slotsOf } from "/fixtures.js";
+import { nameOf, placedNameOf, problemOf, slotsOf, slotsText } from "/fixtures.js";
 import { fixtureOf, maySend, parts, partsOf } from "/server.js";
 
 const LAST = 512, MOST_PROBLEMS = 5;
-const HELP = isTouched ? "Tap a fixture to select it. Then drag it, or type its address."
-    : "Drag a fixture, or select it and use the arrow keys; Enter moves it, Escape leaves it where it was.";
-const isNarrow = matchMedia("(max-width: 700px)");
-const width = () => (isNarrow.matches ? 8 : 32);
+const HELP = { touch: "Tap a fixture to select it. Then drag it, or type its address.",
+    mouse: "Drag a fixture, or select it and use the arrow keys; Enter moves it, Escape leaves it where it was." };
+const isNarrow = matchMedia("(max-width: 700px)"), width = () => (isNarrow.matches ? 8 : 32);
 const rowOf = (slot) => Math.ceil(slot / width());
 const areaOf = (from, to) => `grid-area: ${rowOf(from)} / ${(from - 1) % width() + 1} / auto / span ${to - from + 1};`;
-const nameWithSlots = (found) => `${placedNameOf(found)}, ${slotsOf(found)}`;
+const nameWithSlots = (found) => `${placedNameOf(found)}, ${slotsText(found)}`;
 const mayMove = (uid) => maySend() && fixtureOf(uid) && !fixtureOf(uid).missing;
 const selected = () => document.activeElement?.dataset.uid;
-// The fixture that is being moved, and where it is now; and the drag, if it is one.
-let moving = null, drag = null;
+// The fixture that is being moved, and where it is now; the drag, if it is one; and by what the page is used.
+let moving = null, drag = null, hand = isTouched ? "touch" : "mouse";
 
 // The fixtures that have slots, by address. Those that share slots are in lanes, one below another.
 function placed() {
-    const ends = [];
-    const all = partsOf("fixture/").filter((found) => found.first)
+    const ends = [], all = partsOf("fixture/").filter((found) => found.first)
         .sort((one, other) => one.first - other.first || (one.uid < other.uid ? -1 : 1));
     return all.map((found) => {
         const free = ends.findIndex((end) => end < found.first), lane = free < 0 ? ends.length : free;
@@ -54,15 +52,18 @@ function hint(fixtures) {
     const before = fixtureOf(moving?.uid);
     const others = fixtures.filter((each) => before && each.root !== before.root && each.first <= moving.last
         && each.last >= moving.first).map(placedNameOf).map((name) => `“${name}”`).join(", ");
-    const uid = selected(), help = isTouched && mayMove(uid) ? [`${nameWithSlots(fixtureOf(uid))}: drag it, or `,
-        make("a", { href: addressOf("fixture", uid), "data-uid": uid }, "type its address"), "."] : [HELP];
-    const by = drag ? "Letting go" : "Enter", end = others ? `overlaps ${others}. ${by} asks` : `free. ${by} sends it`;
-    const leave = drag && isTouched ? "over its old place, in yellow, leaves it" : "Escape leaves it where it was";
-    return before ? [`${nameOf(before)}, not sent yet: ${slotsOf(before)} → ${slotsOf(moving)}, ${end}; ${leave}.`]
-        : maySend() ? help : [];
+    const uid = selected(), isFinger = hand === "touch", help = isFinger && mayMove(uid)
+        ? [`${nameWithSlots(fixtureOf(uid))}: drag it, or `, make("a", { href: addressOf("fixture", uid),
+            "data-uid": uid }, "type its address.")] : HELP[isFinger ? hand : "mouse"];
+    const ways = isFinger ? drag && "Let go to send or cancel it." : `${drag ? "Letting go" : "Enter"} ${
+        others ? "asks" : "sends it"}; Escape leaves it where it was.`;
+    return before ? [`${nameOf(before)}, not sent yet: ${slotsText(before)} → ${slotsOf(moving)}, ${others
+        ? `overlaps ${others}` : "free"}. ${ways || ""} `, !drag && [button("Send", () => finish(true),
+        { class: "main" }), " ", button("Cancel", () => finish(false))]] : maySend() ? [help] : [];
 }
 
 function keyed(event) {
+    hand = "keys";
     const { uid } = event.target.dataset, now = moving?.uid === uid ? moving.first : fixtureOf(uid)?.first;
     const steps = { ArrowLeft: now - 1, ArrowRight: now + 1, ArrowUp: now - width(), ArrowDown: now + width(), Home: 1,
         End: LAST };
@@ -80,18 +81,21 @@ const slotAt = ({ clientX, clientY }) => Number(document.elementsFromPoint(clien
 
 function dragged(event) {
     const { uid } = event.target.dataset;
+    hand = event.pointerType;
     // On a phone a finger scrolls, unless the fixture was selected before.
     if (!uid || !mayMove(uid) || (event.pointerType === "touch" && selected() !== uid)) {
         return;
     }
     drag?.abort();
     drag = new AbortController();
-    const within = slotAt(event) - fixtureOf(uid).first, { signal } = drag;
+    const within = slotAt(event) - (moving?.uid === uid ? moving : fixtureOf(uid)).first, { signal } = drag;
     // Beside the slots it stays where it was, and one that is missing by now, too.
     addEventListener("pointermove", (moved) => slotAt(moved) && mayMove(uid) && move(uid, slotAt(moved) - within),
         { signal });
-    ["pointerup", "pointercancel"].forEach((name) => addEventListener(name, () => finish(name === "pointerup"),
-        { signal }));
+    // A finger covers where it is: what it has moved is sent by a button.
+    addEventListener("pointerup", () => (hand === "touch" && moving && moving.first !== fixtureOf(uid)?.first
+        ? draw(drag = drag.abort()) : finish(true)), { signal });
+    addEventListener("pointercancel", () => finish(false), { signal });
 }
 
 // The parts of a fixture in the grid's rows. The first with room for its name, or the last, is for keys and listeners.
@@ -105,15 +109,14 @@ function piecesOf(found, owners) {
             class: classes("piece", missing && "away", isCrowded && "crowded", moving?.uid === uid && "moving"),
             style: `${areaOf(from, to)} --lane: ${lane}` };
         pieces.push(isMain ? make("button", { ...shared, type: "button", onblur: redraw, onfocus: redraw,
-            "aria-label": `${placedNameOf(found)}, slots ${first} to ${last}${isCrowded ? ", overlaps another" : ""}` },
+            "aria-label": `${nameWithSlots(found)}${isCrowded ? ", overlaps another" : ""}` },
         placedNameOf(found)) : make("div", { ...shared, "aria-hidden": "true" }, `… ${placedNameOf(found)}`));
     }
     return pieces;
 }
 
 export function view() {
-    const fixtures = placed(), owners = ownersOf(fixtures);
-    const all = partsOf("fixture/");
+    const fixtures = placed(), owners = ownersOf(fixtures), all = partsOf("fixture/");
     const unknown = all.filter((found) => ["…", "unknown"].includes(slotsOf(found))).length;
     const crowded = owners.filter((each) => each > 1).length, free = owners.filter((each) => !each).length;
     const problems = parts.get("problems") ?? [];
@@ -122,7 +125,7 @@ export function view() {
     const old = fixtureOf(moving?.uid), isOld = (slot) => old && old.first <= slot && slot <= old.last;
     const opened = ({ target: { dataset: { uid } } }) => uid && (location.hash = addressOf("fixture", uid));
     return [alarm(), make("p", {}, !all.length ? "No fixture so far, so no slot is known to be taken."
-        : `${free} slots are free${crowded ? `, ${crowded} shared` : ""}${
+        : `${free} of 512 slots (DMX channels) are free${crowded ? `, ${crowded} shared` : ""}${
             unknown ? `, those of ${plural(unknown, "fixture")} unknown` : ""}${moving ? ", once this is sent" : ""}.`),
         // What is wrong with a fixture so far isn't shown beside where it is moved to, which may be free.
         make("ul", { class: "problems" }, problems.slice(0, MOST_PROBLEMS).map((each) => make("li",

@@ -93,8 +93,8 @@ class Discoveries:
         said, reasons, shown = findings_of(log, sorted(self._rig.labels())[:MOST_EXPECTED])
         # Nobody can guess its name.
         self._pictures = {secrets.token_urlsafe(16): (log, said)} if said is not None else {}
-        self._show(**ended, **shown, picture="".join(self._pictures))
         self._rig.explain(reasons)
+        self._show(**ended, **shown, picture="".join(self._pictures))
 
     def picture(self, name: str) -> str:
         """The page that explains the last discovery, with the labels that are known by now. Raises Refusal."""
