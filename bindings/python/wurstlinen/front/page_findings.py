@@ -161,7 +161,7 @@ def findings_of(log: Sequence[str], expected: Sequence[Uid]
     about = [(None if number is None else Uid.from_number(number), each)
              for number, each in said.of_uids({uid.number for uid in expected})]
     reasons = {uid: each.text.removeprefix(f"{uid} ") for uid, each in about if uid is not None}
-    # Who breaks a rule may answer for others, which then are nobody: whose reply to a branch it is counts, if it is one.
+    # Who breaks a rule may answer for others, which then are nobody: whose reply to a branch it is counts, if any.
     replies = {each: decode_branch_reply(bytes.fromhex(json.loads(log[1 + each.place]).get("reply", "")))
                for _, each in about if each.place is not None}
     breaks = {each: uid if (number := replies.get(each)) is None else Uid.from_number(number) for uid, each in about

@@ -55,10 +55,10 @@ function hint(fixtures) {
     const uid = selected(), isFinger = hand === "touch", help = isFinger && mayMove(uid)
         ? [`${nameWithSlots(fixtureOf(uid))}: drag it, or `, make("a", { href: addressOf("fixture", uid),
             "data-uid": uid }, "type its address.")] : HELP[isFinger ? hand : "mouse"];
-    const ways = isFinger ? drag && "Let go to send or cancel it." : `${drag ? "Letting go" : "Enter"} ${
+    const ways = isFinger ? drag && " Let go to send or cancel it." : ` ${drag ? "Letting go" : "Enter"} ${
         others ? "asks" : "sends it"}; Escape leaves it where it was.`;
     return before ? [`${nameOf(before)}, not sent yet: ${slotsText(before)} → ${slotsOf(moving)}, ${others
-        ? `overlaps ${others}` : "free"}. ${ways || ""} `, !drag && [button("Send", () => finish(true),
+        ? `overlaps ${others}` : "free"}.${ways || ""}`, !drag && [" ", button("Send", () => finish(true),
         { class: "main" }), " ", button("Cancel", () => finish(false))]] : maySend() ? [help] : [];
 }
 
