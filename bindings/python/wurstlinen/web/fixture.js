@@ -2,8 +2,8 @@
 import { act, addressOf, busily, busy, redraw, say } from "/app.js";
 import { alarm } from "/discovery.js";
 import { button, classes, make } from "/dom.js";
-import { SENDING, changeOf, editor, identifier, nameOf, notesOf, ordered, remarksOf, send, slotsText, valueOf, walk }
-    from "/fixtures.js";
+import { DETAIL, SENDING, changeOf, editor, identifier, nameOf, notesOf, ordered, remarksOf, send, slotsText, valueOf,
+    walk } from "/fixtures.js";
 import { fixtureOf, maySend, mayUse, parts } from "/server.js";
 
 // The fixture that was asked for all by this page.
@@ -77,9 +77,9 @@ export function view(uid) {
     const isOld = measured && (found.missing || found.is_gone) ? "Before it was missing: " : "";
     return [make("article", {}, back, make("h2", { class: "name" }, nameOf(found)),
         make("p", { class: "whole" }, about.join(" · ")),
-        make("p", { class: classes("notes", notes.length && "bad") }, [...notes, ...remarksOf(found)].join("; ")),
-        found.missing && alarm(),
-        identifier(found, "big"),
+        make("p", { class: classes("notes", notes.length && "bad") }, [...notes, ...remarksOf(found)].join("; ")
+            .replace(DETAIL, "")),
+        found.missing && alarm(), identifier(found, "big"),
         make("div", { class: "tools steps" }, steps), field("Label", "label"),
         make("div", { class: "place" }, field("Address", "address"), nudge(found, "−", -1, "lower"),
             nudge(found, "+", 1, "higher")),
