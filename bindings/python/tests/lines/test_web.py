@@ -9,8 +9,8 @@ import servers
 from browser import needs_chromium
 from common import folder, needs_library
 from web_pages import (
-    BACK, DESK, HOUSE, LEFT, PHONE, RIGHT, SECOND, BrowserTestCase, Window, at_each_size, folder_of_downloads, many,
-    opened, row, way, web_on, window,
+    BACK, DESK, HOUSE, LEFT, PHONE, RIGHT, SECOND, SECTIONS, BrowserTestCase, Window, at_each_size,
+    folder_of_downloads, many, opened, row, way, web_on, window,
 )
 from wurstlinen.tool.places import program
 
@@ -494,12 +494,10 @@ class OtherViews(BrowserTestCase):
         with opened(size, "discovery", devices=[liar]) as (seen, web, rig):
             web.call("load", name="rig.csv", text="uid,label\n1234:00000099,Lost\n")
             seen.button("Discover")
-            sections = "Object.fromEntries([...document.querySelectorAll('main section')].map((each) => " \
-                       "[each.firstChild.textContent, each.lastChild.textContent]))"
-            seen.until(f"{sections}['Missing']?.includes('Lost (1234:00000099) ')"
-                       f" && !{sections}['Missing'].includes(\"wasn't found\")"
-                       f" && {sections}['Fixtures that did something wrong']")
-            found = seen.page.value(sections)
+            seen.until(f"{SECTIONS}['Missing']?.includes('Lost (1234:00000099) ')"
+                       f" && !{SECTIONS}['Missing'].includes(\"wasn't found\")"
+                       f" && {SECTIONS}['Fixtures that did something wrong']")
+            found = seen.page.value(SECTIONS)
             self.assertIn("4444:00000001 ", found["Fixtures that did something wrong"])
             self.assertNotIn("4444:00000001", found["Missing"])
             self.assertNotIn("1234:00000099", found["Fixtures that did something wrong"])
@@ -528,7 +526,7 @@ class OtherViews(BrowserTestCase):
             seen.click(f"{row(BACK)} .more")
             seen.until("document.querySelector('article .result.bad')?.textContent.startsWith('Something that ')")
             seen.click("article .result a:last-of-type")
-            seen.until(f"{sections}['Missing']?.includes('Back truss (') && {sections}['Missing'].includes('Lost (')")
+            seen.until(f"{SECTIONS}['Missing']?.includes('Back truss (') && {SECTIONS}['Missing'].includes('Lost (')")
 
     @at_each_size
     def test_the_line(self, size: Tuple[int, int]) -> None:

@@ -11,16 +11,14 @@ from browser import needs_chromium
 from common import needs_library, scene
 from fronts import called
 from web_pages import (
-    BACK, DESK, FIVE, HOUSE, LEFT, PHONE, RIGHT, BrowserTestCase, Moody, at_each_size, many, opened, row, way, web_on,
-    window,
+    BACK, DESK, FIVE, HOUSE, LEFT, PHONE, RIGHT, SECTIONS, BrowserTestCase, Moody, at_each_size, corner, drag, many,
+    opened, row, way, web_on, window,
 )
 from wurstlinen.tool.places import program
 
 WAITS = f"document.querySelector(\"{row(RIGHT)} .note\")?.textContent.includes(" \
         "\"waits until RDM is resumed, and can't be taken back before\")"
 LIAR, UID = "4444:00000001", "[0-9a-f]{4}:[0-9a-f]{8}"
-SECTIONS = "Object.fromEntries([...document.querySelectorAll('main section')].map((each) => " \
-           "[each.firstChild.textContent, each.lastChild.textContent]))"
 
 
 @needs_chromium
@@ -134,44 +132,27 @@ class Clear(BrowserTestCase):
 
     def test_slots_by_finger(self) -> None:
         with opened(PHONE, "slots") as (seen, web, _), web.follow() as events:
-            piece = f"button[data-uid='{RIGHT}']"
-            seen.until(f"document.querySelector(\"{piece}\")")
-            at = seen.page.value(f"""(() => {{ document.querySelector("{piece}").scrollIntoView({{block: "center"}});
-                const box = document.querySelector("{piece}").getBoundingClientRect();
-                return [box.left + 8, box.top + 8]; }})()""")
+            piece = f"document.querySelector(\"button[data-uid='{RIGHT}']\")"
+            seen.until(piece)
+            at = corner(seen, RIGHT)
             # It is taken where its name is, which has no room in slot 8, the last one of its row.
             by_the_way, there = way(seen, 9, 9 + 17), way(seen, 9, 9 + 48)
-
-            def touch(kind: str, dx: float = 0, dy: float = 0) -> None:
-                points = [] if kind == "touchEnd" else [{"x": at[0] + dx, "y": at[1] + dy}]
-                seen.page.call("Input.dispatchTouchEvent", type=kind, touchPoints=points)
-
             # The first touch only selects it.
-            touch("touchStart")
-            touch("touchEnd")
+            drag(seen, at)
             seen.until(f"document.activeElement?.dataset.uid === '{RIGHT}'")
-            touch("touchStart")
-            touch("touchMove", *by_the_way)
-            touch("touchMove", *there)
-            touch("touchEnd")
+            drag(seen, at, by_the_way, there)
             # Nobody sees what a finger covers, so letting go sends nothing.
             seen.until("document.querySelector('.hint').innerText === 'Front right, not sent yet: slots 8-14 → 56-62, "
                        "free. Send Cancel'")
             seen.button("Cancel")
             seen.until("!document.querySelector('.piece.moving')")
             # It is dragged on from where it is.
-            seen.page.value(f"document.querySelector(\"{piece}\").focus()")
-            at[:] = seen.page.value(f"""(() => {{ document.querySelector("{piece}").scrollIntoView({{block: "center"}});
-                const box = document.querySelector("{piece}").getBoundingClientRect();
-                return [box.left + 8, box.top + 8]; }})()""")
-            touch("touchStart")
-            touch("touchMove", *by_the_way)
-            touch("touchEnd")
+            seen.page.value(f"{piece}.focus()")
+            at = corner(seen, RIGHT)
+            drag(seen, at, by_the_way)
             seen.until("document.querySelector('.hint').innerText.includes(' → 25-31, free. Send')")
-            at[:] = at[0] + by_the_way[0], at[1] + by_the_way[1]
-            touch("touchStart")
-            touch("touchMove", there[0] - by_the_way[0], there[1] - by_the_way[1])
-            touch("touchEnd")
+            drag(seen, (at[0] + by_the_way[0], at[1] + by_the_way[1]),
+                 (there[0] - by_the_way[0], there[1] - by_the_way[1]))
             seen.until("document.querySelector('.hint').innerText.includes(' → 56-62, free. Send')")
             seen.button("Send")
             events.until(lambda parts: parts.get(f"fixture/{RIGHT}", {}).get("address") == 8 + 48)

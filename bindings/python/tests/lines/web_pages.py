@@ -26,6 +26,9 @@ FIVE = json.loads((servers.PACKAGE.parent / "examples/five_fixtures.json").read_
 PHONE, DESK = (390, 844), (1400, 900)
 SIZES = (PHONE, DESK)
 SECONDS = 60.0
+# What each section of a view says, by its heading.
+SECTIONS = "Object.fromEntries([...document.querySelectorAll('main section')].map((each) => " \
+           "[each.firstChild.textContent, each.lastChild.textContent]))"
 Test = Callable[[Any, Tuple[int, int]], None]
 
 
@@ -291,6 +294,23 @@ def way(seen: Window, from_slot: int, to_slot: int) -> Tuple[float, float]:
         document.querySelectorAll(".universe i")[slot - 1].getBoundingClientRect());
         return [to.left - from.left, to.top - from.top]; }})()""")
     return x, y
+
+
+def corner(seen: Window, uid: str) -> Tuple[float, float]:
+    """A place of this fixture's piece, which is scrolled into view."""
+    piece = f"document.querySelector(\"button[data-uid='{uid}']\")"
+    x, y = seen.page.value(f"""(() => {{ {piece}.scrollIntoView({{block: "center"}});
+        const box = {piece}.getBoundingClientRect();
+        return [box.left + 8, box.top + 8]; }})()""")
+    return x, y
+
+
+def drag(seen: Window, at: Tuple[float, float], *moves: Tuple[float, float]) -> None:
+    """A finger touches this place, is moved so far from there, and lets go."""
+    places = [{"x": at[0] + x, "y": at[1] + y} for x, y in ((0, 0), *moves)]
+    for kind, place in (("touchStart", places[0]), *(("touchMove", place) for place in places[1:])):
+        seen.page.call("Input.dispatchTouchEvent", type=kind, touchPoints=[place])
+    seen.page.call("Input.dispatchTouchEvent", type="touchEnd", touchPoints=[])
 
 
 @contextlib.contextmanager
