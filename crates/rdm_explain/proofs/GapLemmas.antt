@@ -25,7 +25,7 @@ in_parts [] ts u h = inr h
 in_parts (s ∷ ss) ts u (inl i) = inl (inl i)
 in_parts (s ∷ ss) ts u (inr h) = elim (in_parts ss ts u h) [ inl i ↦ inl (inr i) | inr i ↦ inr i ]
 
-in_front : (ss : List Stretch) (i u : ℕ) → IsIn (take i ss) u → IsIn ss u
+pub in_front : (ss : List Stretch) (i u : ℕ) → IsIn (take i ss) u → IsIn ss u
 in_front ss i u h = subst (λ l. IsIn l u) (take-append-drop i ss) (in_left (take i ss) (drop i ss) u h)
 
 -- the stretch that u is in

@@ -3,6 +3,7 @@ pub mod CommonLemmas
 pub mod GapLemmas
 pub mod CoverLemmas
 pub mod SortedLemmas
+pub mod GapEndLemmas
 pub mod StandingLemmas
 pub mod EndLemmas
 pub mod RuleLemmas

@@ -16,7 +16,7 @@ use Rattle.rdm_explain.specs.declared.exchange.Exchange.{Exchange}
 use Rattle.rdm_explain.specs.declared.certificate.RunFinding.{RunFinding}
 use Rattle.rdm_explain.specs.declared.certificate.KnownFinding.{KnownFinding}
 use Rattle.rdm_explain.specs.Exchanges.{seen_all}
-use Rattle.rdm_explain.specs.Covers.{FirstUncovered}
+use Rattle.rdm_explain.specs.Covers.{FirstUncovered, LastUncovered}
 
 -- the exchanges before this one have P, and those up to it don't, nor do all of them
 pub record IsFirstWithout (P : List Seen → Type 0) (xs : List Exchange) (at : ℕ) : Type 0 where
@@ -97,6 +97,8 @@ pub record ExplainsRun (s : List Device) (xs : List Exchange) (f : RunFinding) :
   pub set : FirstMisreported (uids_of s) xs f.misreported
   pub tried : FirstWithout (AreTried (seen_all xs)) xs f.untried
   pub cleared : FirstUncovered xs f.uncovered
+  -- the end of the first range that isn't covered
+  pub ends : LastUncovered xs f.uncovered f.uncovered_to
   pub first : FirstElementWithout (IsAsFirstAcked (seen_all xs)) s f.other_data
 
 -- the parts of the certificate that need the UIDs that the run was to mute first

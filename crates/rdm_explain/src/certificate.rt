@@ -3,7 +3,7 @@ ghost use Rattle.std.specs.Prelude.{◌≡◌, IfOk};
 ghost use Rattle.rdm_agent.specs.Certificate.{known_of};
 ghost use Rattle.rdm_explain.specs.Certificates.{ExplainsRun, ExplainsKnown};
 
-use crate::cover::first_uncovered;
+use crate::cover::{first_uncovered, last_uncovered};
 use crate::exchange::Exchange;
 use crate::known::{first_not_muted_first, first_unread};
 use crate::order::{first_failure, first_missing_unmute};
@@ -29,6 +29,8 @@ pub struct RunFinding {
     pub untried: Option<usize>,
     /// Each other UID was in a range that was silent five times in a row. This one wasn't.
     pub uncovered: Option<Uid>,
+    /// If there is such a UID, the last of those in a row from it that weren't.
+    pub uncovered_to: Option<Uid>,
     /// Each device of the set has the data of its first acknowledgement. This one has other data.
     pub other_data: Option<Device>,
 }
@@ -52,12 +54,14 @@ pub fn explain_run(
 ) -> Result<RunFinding, NoMemory>
     ensures { IfOk result (λ found. ExplainsRun set.now exchanges.now found) }
 {
+    let uncovered = first_uncovered(alloc, exchanges)?;
     Ok(RunFinding {
         missing_unmute: first_missing_unmute(exchanges),
         failure: first_failure(exchanges),
         misreported: first_misreported(alloc, set, exchanges)?,
         untried: first_untried(alloc, exchanges)?,
-        uncovered: first_uncovered(alloc, exchanges)?,
+        uncovered,
+        uncovered_to: last_uncovered(alloc, uncovered, exchanges)?,
         other_data: first_other_data(alloc, set, exchanges)?,
     })
 }

@@ -2,10 +2,10 @@
 ghost use Rattle.std.specs.Prelude.{◌≡◌, ◌+◌, ◌<◌, ◌≤◌, ◌^◌, ◌++◌, ◌∷◌, [], IfOk, nat_le, if◌then◌else◌};
 ghost use Rattle.rdm_explain.specs.declared.cover.Stretch.{Stretch};
 ghost use Rattle.std.specs.List.Sorted.{IsNonDecreasingBy};
-ghost use Rattle.rdm_explain.specs.Exchanges.{seen_of};
-ghost use Rattle.rdm_explain.specs.Covers.{FirstUncovered};
+ghost use Rattle.rdm_explain.specs.Exchanges.{seen_all, seen_of};
+ghost use Rattle.rdm_explain.specs.Covers.{FirstUncovered, LastUncovered};
 ghost use Rattle.rdm_explain.specs.body.Covering.{cover_of, cover_start, covered_after, silence_after};
-ghost use Rattle.rdm_explain.specs.body.Covering.{acked_after, FirstGap};
+ghost use Rattle.rdm_explain.specs.body.Covering.{acked_after, cover_state, nearer, IsIn, FirstGap, GapEnd};
 
 use crate::exchange::{Asked, Exchange};
 use rdm_wire::{NoMemory, Uid};
@@ -145,16 +145,71 @@ fn first_gap(stretches: &[Stretch]) -> Option<Uid>
     }
 }
 
-/// The least UID that the exchanges don't cover. They cover a UID that was acknowledged, or that is in a range that was
-/// branched five times in a row without a byte. `None`: they cover all of the 2^48 UIDs. The only error: out of memory.
-pub fn first_uncovered(alloc: Global, exchanges: &[Exchange]) -> Result<Option<Uid>, NoMemory>
-    ensures { IfOk result (λ found. FirstUncovered exchanges.now found) }
+// The nearer one of two numbers that end a gap after `first`, if a stretch begins by `lo`.
+fn nearer(first: u64, lo: u64, hi: u64, next: u64) -> u64
+    ensures { result ≡ nearer first lo hi next }
+{
+    if first < lo && (lo <= hi && lo < next) {
+        lo
+    } else {
+        next
+    }
+}
+
+// The last of the UIDs in a row from this one that are in none of these stretches.
+fn gap_end(stretches: &[Stretch], first: Uid) -> Option<Uid>
+    requires { IsIn stretches.now first → ⊥ }
+    ensures { GapEnd stretches.now first result }
+{
+    let from = first.number();
+    let mut next = END;
+    for stretch in stretches {
+        next = nearer(from, stretch.lo.number(), stretch.hi.number(), next);
+    }
+    Uid::from_number(next - 1)
+}
+
+// What the exchanges cover.
+fn covered(alloc: Global, exchanges: &[Exchange]) -> Result<Vec<Stretch>, NoMemory>
+    ensures { IfOk result (λ v. v.items ≡ (cover_state (seen_all exchanges.now)).covered) }
 {
     let mut cover = Cover::new(alloc);
     for exchange in exchanges {
         cover = cover.after(exchange)?;
     }
-    let mut covered = cover.covered;
+    Ok(cover.covered)
+}
+
+/// The least UID that the exchanges don't cover. They cover a UID that was acknowledged, or that is in a range that was
+/// branched five times in a row without a byte. `None`: they cover all of the 2^48 UIDs. The only error: out of memory.
+pub fn first_uncovered(alloc: Global, exchanges: &[Exchange]) -> Result<Option<Uid>, NoMemory>
+    ensures { IfOk result (λ found. FirstUncovered exchanges.now found) }
+{
+    let mut covered = covered(alloc, exchanges)?;
     covered.sort_unstable_by_key(|stretch| stretch.lo.number());
     Ok(first_gap(&covered))
+}
+
+/// The last of the UIDs in a row, from this first one on, that the exchanges don't cover. The only error: out of
+/// memory.
+pub fn last_uncovered(
+    alloc: Global,
+    first: Option<Uid>,
+    exchanges: &[Exchange],
+) -> Result<Option<Uid>, NoMemory>
+    requires { FirstUncovered exchanges.now first }
+    ensures { IfOk result (λ last. LastUncovered exchanges.now first last) }
+{
+    match first {
+        Some(first) => last_after(alloc, first, exchanges),
+        None => Ok(None),
+    }
+}
+
+fn last_after(alloc: Global, first: Uid, exchanges: &[Exchange]) -> Result<Option<Uid>, NoMemory>
+    requires { FirstUncovered exchanges.now (Some first) }
+    ensures { IfOk result (λ last. LastUncovered exchanges.now (Some first) last) }
+{
+    let covered = covered(alloc, exchanges)?;
+    Ok(gap_end(&covered, first))
 }

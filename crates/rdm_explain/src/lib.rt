@@ -21,7 +21,7 @@ mod uids;
 mod watch;
 
 pub use certificate::{KnownFinding, RunFinding, explain_known, explain_run};
-pub use cover::first_uncovered;
+pub use cover::{first_uncovered, last_uncovered};
 pub use exchange::{Asked, Exchange, Heard, push_exchange, read_exchange};
 pub use garbled::first_garbled;
 pub use known::{first_not_muted_first, first_unread};

@@ -1,6 +1,6 @@
 -- What exchanges cover, as a state after each of them.
 use Rattle.std.specs.Prelude.{◌⊎◌, ℕ, ◌+◌, ◌<◌, ◌≤◌, ◌^◌, ◌&&◌, List, [], ◌∷◌, ◌++◌, Option, Some, None, fold, ◌==◌}
-use Rattle.std.specs.Prelude.{nat_le}
+use Rattle.std.specs.Prelude.{nat_le, nat_lt}
 use Rattle.std.specs.Prelude.{if◌then◌else◌}
 use Rattle.rdm_wire.specs.Honest.{Asked, Heard, Seen, is_silent, is_acked}
 use Rattle.rdm_wire.specs.Honest.Asked.{Unmute, Branch, Mute, Other}
@@ -26,6 +26,22 @@ pub record IsFirstGap (ss : List Stretch) (u : ℕ) : Type 0 where
 abbrev pub FirstGap : List Stretch → Option ℕ → Type 0
 FirstGap ss None = (u : ℕ) → u < 2 ^ 48 → IsIn ss u
 FirstGap ss (Some u) = IsFirstGap ss u
+
+-- the numbers from u to this one are in none of the stretches, and the next one is, unless this is the greatest
+pub record IsGapEnd (ss : List Stretch) (u last : ℕ) : Type 0 where
+  pub from : u ≤ last
+  pub below : last < 2 ^ 48
+  pub each : (v : ℕ) → u ≤ v → v ≤ last → IsIn ss v → ⊥
+  pub next : last + 1 < 2 ^ 48 → IsIn ss (last + 1)
+
+-- the nearer one of two numbers that end a gap after u, if lo is one that a stretch begins by
+abbrev pub nearer : (u lo hi next : ℕ) → ℕ
+nearer u lo hi next = if nat_lt u lo && (nat_le lo hi && nat_lt lo next) then lo else next
+
+-- a gap has an end
+abbrev pub GapEnd : List Stretch → ℕ → Option ℕ → Type 0
+GapEnd ss u None = ⊥
+GapEnd ss u (Some last) = IsGapEnd ss u last
 
 -- the last `count` exchanges are silent branches of lo to hi, and the stretches are covered
 pub record CoverState : Type 0 where

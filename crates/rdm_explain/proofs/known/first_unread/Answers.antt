@@ -1,4 +1,4 @@
-use Rattle.std.proofs.Common.{◌∙◌, true, false, sym, subst, take}
+use Rattle.std.proofs.Common.{◌∙◌, sym, subst, take}
 use Rattle.std.proofs.Math.Bool.{or-false}
 use Rattle.rdm_wire.proofs.EachAfterLemmas.{EachAfter-front, no_element}
 use Rattle.rdm_wire.specs.Uid.{has}
