@@ -10,12 +10,13 @@ from typing import List
 from ..checker.case import Subject
 from . import (
     answers, arguments, damage, damaged_logs, encodings, explained_flaws, explained_json, explained_logs,
-    explained_runs, keys, lies, limits, log_lines, logs, neighbours, nesting, ports, remarks, scenes, searches, soaks,
+    explained_orders, explained_runs, keys, lies, limits, log_lines, logs, neighbours, nesting, ports, remarks, scenes,
+    searches, soaks,
 )
 
 MODULES = (damage, arguments, keys, limits, encodings, nesting, remarks, neighbours, ports, logs, log_lines,
-           explained_runs, explained_flaws, explained_logs, explained_json, lies, damaged_logs, soaks, answers,
-           searches, scenes)
+           explained_runs, explained_orders, explained_flaws, explained_logs, explained_json, lies, damaged_logs, soaks,
+           answers, searches, scenes)
 
 
 def subjects() -> List[Subject]:

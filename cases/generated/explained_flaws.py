@@ -39,8 +39,8 @@ FLAWS = (
 FLAWED = """\
 discovery: {} exchanges, 0 devices; others may be on the line, or the log ends within the run
 exchange 3 mutes a UID that neither acknowledged nor was muted five times in a row: perhaps no device has it
-not settled: a device from 0000:00000000 up may be missing
-1234:00000009 didn't acknowledge a mute: take it off the line and discover again (exchange 3 has other bytes: \
+not settled: a device from 0000:00000000 to ffff:ffffffff may be missing
+1234:00000009 didn't acknowledge a mute (exchange 3 has other bytes: \
 a rule was broken, by it, another device or noise)
 exchange 3{}: bytes came after a mute of 1234:00000009 that don't acknowledge it: {}; \
 a rule was broken, by a device or noise: take 1234:00000009 off the line and discover again; \
@@ -75,9 +75,9 @@ FROM_SPARE = FINE._replace(source=SPARE)
 SPARE_ANSWERS = """\
 discovery: 4 exchanges, 0 devices; others may be on the line, or the log ends within the run
 exchange 3 mutes a UID that neither acknowledged nor was muted five times in a row: perhaps no device has it
-not settled: a device from 0000:00000000 up may be missing
+not settled: a device from 0000:00000000 to ffff:ffffffff may be missing
 1234:00000008 wasn't found yet; exchange 3 has its UID and an answer that wasn't due, perhaps another device's
-1234:00000009 didn't acknowledge a mute: take it off the line and discover again (exchange 3 has other bytes: \
+1234:00000009 didn't acknowledge a mute (exchange 3 has other bytes: \
 a rule was broken, by it, another device or noise)
 exchange 3: bytes came after a mute of 1234:00000009 that don't acknowledge it: they are from 1234:00000008; \
 a rule was broken, by a device or noise: take 1234:00000009 off the line and discover again; \
@@ -97,7 +97,7 @@ TEXT_FLAWS = (
 MISREAD = """\
 discovery: {} exchanges, ended early at 1234:00000008 (it alone was asked, and the answers weren't a new device's), \
 0 devices, but 1 listed device wasn't found; others may be on the line
-{}not settled: a device from 0000:00000000 up may be missing
+{}not settled: a device from 0000:00000000 to ffff:ffffffff may be missing
 1234:00000009 wasn't found: the run ended before it was clear whether it is there; it broke no rule until then
 {}a rule was broken, by a device or noise: take {} off the line and discover again{}
 """
@@ -106,8 +106,8 @@ NO_DEVICE = "; if your rig has no such device, split the line"
 WRONG_SUM = TEXT_FLAWS[-1][1].hex()
 AFTER_MUTE = MISREAD.format(
     5, "exchange 3 mutes a UID that neither acknowledged nor was muted five times in a row: perhaps no device has it\n",
-    "1234:00000008 alone was asked, and bytes came that are no right answer: take it off the line and discover again"
-    f"{NO_DEVICE} (exchange 4)\n"
+    "1234:00000008 alone was asked, and bytes came that are no right answer; a rule was broken, by a device or noise "
+    "(exchange 4)\n"
     "exchange 3 (and 1 more): bytes came after a mute of 1234:00000001 that don't acknowledge it: "
     "they are too short for a response; ", "1234:00000008", "; then 1234:00000001").replace(
         "noise: take 1234:00000008 off", "noise: first take 1234:00000008, at which the run ended, off")
@@ -153,8 +153,7 @@ discovery: 16 exchanges, 1 device; no other device is on the line if all follow 
 the log doesn't have the run's kind
 1234:00000009 was found, and followed the rules
 exchange 5 (and 1 more): the UIDs from 0000:00000000 to ffff:ffffffff were asked, and bytes came though no listed \
-device was due; they read as 1234:00000008, which isn't listed; a rule was broken: name it by --present, \
-if your rig has it
+device was due; they read as 1234:00000008, which isn't listed; a rule was broken
 exchange 6: bytes came after a mute of 1234:00000008 that don't acknowledge it: \
 they are too short for a response; a rule was broken, by a device or noise: \
 take 1234:00000008 off the line and discover again; if your rig has no such device, split the line
@@ -176,8 +175,9 @@ BLAMED = """\
 a device that was found, and is answered wrongly five times
 quick full
 3 unmute; all > liar; mute liar > ack; 5 alone liar > noise
-discovery: full, quick, 10 exchanges, 1 device; others may be on the line, or the log ends within the run
-not settled: a device from 0000:00000000 up may be missing
+discovery: full, quick, 10 exchanges, 1 device; others may be on the line: \
+the run ended there if it is of an older version, or the log ends within it
+not settled: a device from 0000:00000000 to 1234:00000008 may be missing, perhaps others above it too
 1234:00000009 was found; exchange 5 has its UID and an answer that wasn't due, perhaps another device's
 exchange 5 (and 4 more): 1234:00000009 alone was asked, and bytes came that are no right answer: \
 they don't begin like a discovery reply; a rule was broken, by a device rather than noise: \
@@ -187,8 +187,9 @@ status 3
 another UID's text five times
 quick full
 3 unmute; 5 alone spare > found
-discovery: full, quick, 8 exchanges, 0 devices; others may be on the line, or the log ends within the run
-not settled: a device from 0000:00000000 up may be missing
+discovery: full, quick, 8 exchanges, 0 devices; others may be on the line: \
+the run ended there if it is of an older version, or the log ends within it
+not settled: a device from 0000:00000000 to ffff:ffffffff may be missing
 exchange 3 (and 4 more): 1234:00000008 alone was asked, and bytes came that are no right answer; \
 they read as 1234:00000001; a rule was broken, by a device rather than noise: \
 take 1234:00000001 off the line and discover again; then 1234:00000008
@@ -207,8 +208,9 @@ status 3
 five bad answers of a broadcast UID
 quick full
 3 unmute; 5 alone nobody > noise
-discovery: full, quick, 8 exchanges, 0 devices; others may be on the line, or the log ends within the run
-not settled: a device from 0000:00000000 up may be missing
+discovery: full, quick, 8 exchanges, 0 devices; others may be on the line: \
+the run ended there if it is of an older version, or the log ends within it
+not settled: a device from 0000:00000000 to ffff:ffffffff may be missing
 exchange 3 (and 4 more): ffff:ffffffff alone was asked, and bytes came that are no right answer: \
 they don't begin like a discovery reply; a rule was broken, by a device rather than noise: \
 split the line and discover each half
@@ -219,9 +221,9 @@ quick full
 3 unmute; alone spare > found; 8 alone liar > noise
 discovery: full, quick, 12 exchanges, ended early at 1234:00000009 (it alone was asked, and the answers weren't a new \
 device's), 0 devices; others may be on the line
-not settled: a device from 0000:00000000 up may be missing
-1234:00000009 alone was asked, and bytes came that are no right answer: take it off the line and discover again; \
-if your rig has no such device, split the line (exchange 4)
+not settled: a device from 0000:00000000 to ffff:ffffffff may be missing
+1234:00000009 alone was asked, and bytes came that are no right answer; \
+a rule was broken, by a device rather than noise (exchange 4)
 exchange 3 (and 8 more): 1234:00000008 alone was asked, and bytes came that are no right answer; \
 they read as 1234:00000001; a rule was broken, by a device or noise: \
 first take 1234:00000009, at which the run ended, off the line and discover again; then 1234:00000008
@@ -232,9 +234,9 @@ quick full
 3 unmute; 5 alone spare > noise; 8 alone liar > noise
 discovery: full, quick, 16 exchanges, ended early at 1234:00000009 (it alone was asked, and the answers weren't a new \
 device's), 0 devices; others may be on the line
-not settled: a device from 0000:00000000 up may be missing
-1234:00000009 alone was asked, and bytes came that are no right answer: take it off the line and discover again; \
-if your rig has no such device, split the line (exchange 8)
+not settled: a device from 0000:00000000 to ffff:ffffffff may be missing
+1234:00000009 alone was asked, and bytes came that are no right answer; \
+a rule was broken, by a device rather than noise (exchange 8)
 exchange 3 (and 12 more): 1234:00000008 alone was asked, and bytes came that are no right answer: \
 they don't begin like a discovery reply; a rule was broken, by a device rather than noise: \
 take 1234:00000008 off the line and discover again; if your rig has no such device, split the line
@@ -246,11 +248,11 @@ steady full
 discovery: full, steady, 6 exchanges, ended early at ffff:ffffffff (it alone was asked, and the answers weren't a new \
 device's), 0 devices; others may be on the line
 exchange 4 mutes a UID that neither acknowledged nor was muted five times in a row: perhaps no device has it
-not settled: a device from 0000:00000000 up may be missing
-ffff:ffffffff alone was asked, and bytes came that are no right answer: split the line and discover each half \
+not settled: a device from 0000:00000000 to ffff:ffffffff may be missing
+ffff:ffffffff alone was asked, and bytes came that are no right answer; a rule was broken, by a device or noise \
 (exchange 5)
 exchange 3 (and 2 more): the UIDs from 0000:00000000 to ffff:ffffffff were asked, and bytes came though no listed \
-device was due; they read as 1234:00000001, which isn't listed: name it by --present, if your rig has it
+device was due; they read as 1234:00000001, which isn't listed
 exchange 4 (and 1 more): bytes came after a mute of 1234:00000001 that don't acknowledge it: \
 they are too short for a response; a rule was broken, by a device or noise: \
 take 1234:00000001 off the line and discover again; if your rig has no such device, split the line
@@ -303,11 +305,11 @@ steady full
 3 unmute; all > found; 4 mute found > noise; mute found; alone liar > noise
 discovery: full, steady, 10 exchanges, ended early at 1234:00000009 (it alone was asked, and the answers weren't a new \
 device's), 0 devices; others may be on the line
-not settled: a device from 0000:00000000 up may be missing
-1234:00000009 alone was asked, and bytes came that are no right answer: take it off the line and discover again; \
-if your rig has no such device, split the line (exchange 9)
+not settled: a device from 0000:00000000 to ffff:ffffffff may be missing
+1234:00000009 alone was asked, and bytes came that are no right answer; a rule was broken, by a device or noise \
+(exchange 9)
 exchange 3 (and 5 more): the UIDs from 0000:00000000 to ffff:ffffffff were asked, and bytes came though no listed \
-device was due; they read as 1234:00000001, which isn't listed: name it by --present, if your rig has it
+device was due; they read as 1234:00000001, which isn't listed
 exchange 4 (and 4 more): bytes came after a mute of 1234:00000001 that don't acknowledge it: \
 they are too short for a response; a rule was broken, by a device or noise: \
 take 1234:00000001 off the line and discover again; if your rig has no such device, split the line
@@ -318,11 +320,10 @@ steady full
 3 unmute; all > found; mute found > noise; mute found > ack; alone liar > liar; 5 mute liar
 discovery: full, steady, 12 exchanges, ended early at 1234:00000009 (it answered alone and then acknowledged no mute), \
 1 device; others may be on the line
-not settled: a device from 0000:00000000 up may be missing
+not settled: a device from 0000:00000000 to 1234:00000000 may be missing, perhaps others above it too
 1234:00000001 was found, but didn't acknowledge a mute \
 (exchange 4 has other bytes: a rule was broken, by it, another device or noise)
-1234:00000009 answered alone and then acknowledged no mute: it left, or broke a rule; \
-take it off the line and discover again
+1234:00000009 answered alone and then acknowledged no mute: it left, or broke a rule
 exchange 4: bytes came after a mute of 1234:00000001 that don't acknowledge it: \
 they are too short for a response; a rule was broken, by a device or noise: \
 first take 1234:00000009, at which the run ended, off the line and discover again; then 1234:00000001
@@ -334,9 +335,45 @@ steady incremental 1234:00000008
 discovery: incremental, steady, 15 exchanges, 1 device; no other device is on the line if all follow the rules
 1234:00000009 was found, and followed the rules
 1234:00000008 was known, and bytes came that don't acknowledge its mute: exchange 3
-exchange 3: bytes came after a mute of 1234:00000008 that don't acknowledge it: \
-they are too short for a response; a rule was broken, probably by noise if you took 1234:00000008 away; \
-if it is still there, check its power and its cable
+exchange 3: bytes came after a mute of 1234:00000008 that don't acknowledge it: they are too short for a response; \
+a rule was broken, perhaps by noise if you took 1234:00000008 away; if it is still there, check its power and its \
+cable, and discover again
+status 3
+
+the same twice
+steady incremental 1234:00000008
+3 unmute; 2 mute spare > noise; 3 mute spare; all > liar; mute liar > ack; 5 all
+discovery: incremental, steady, 15 exchanges, 1 device; no other device is on the line if all follow the rules
+1234:00000009 was found, and followed the rules
+1234:00000008 was known, and bytes came that don't acknowledge its mute: exchange 3
+exchange 3 (and 1 more): bytes came after a mute of 1234:00000008 that don't acknowledge it: \
+they are too short for a response; a rule was broken, perhaps by noise if you took 1234:00000008 away; \
+if it is still there, check its power and its cable, and discover again
+status 3
+
+the same five times
+steady incremental 1234:00000008
+3 unmute; 5 mute spare > noise; all > liar; mute liar > ack; 5 all
+discovery: incremental, steady, 15 exchanges, 1 device; no other device is on the line if all follow the rules
+1234:00000009 was found, and followed the rules
+1234:00000008 was known, and bytes came that don't acknowledge its mute: exchange 3
+exchange 3 (and 4 more): bytes came after a mute of 1234:00000008 that don't acknowledge it: \
+they are too short for a response; a rule was broken, by a device rather than noise: \
+take 1234:00000008 off the line and discover again; if your rig has no such device, split the line
+status 3
+
+noise after a mute of a known UID, and then from another UID, with which a run ends
+steady incremental 1234:00000008
+3 unmute; mute spare > noise; 4 mute spare; alone liar > noise
+discovery: incremental, steady, 9 exchanges, ended early at 1234:00000009 (it alone was asked, and the answers weren't \
+a new device's), 0 devices; others may be on the line
+not settled: a device from 0000:00000000 to ffff:ffffffff may be missing
+1234:00000009 alone was asked, and bytes came that are no right answer; a rule was broken, by a device or noise \
+(exchange 8)
+1234:00000008 was known, and bytes came that don't acknowledge its mute: exchange 3
+exchange 3 (and 1 more): bytes came after a mute of 1234:00000008 that don't acknowledge it: \
+they are too short for a response; a rule was broken, by a device or noise: \
+take 1234:00000009, at which the run ended, off the line and discover again
 status 3
 """
 

@@ -16,7 +16,7 @@ FINDS = "3 unmute; all > found; mute found > ack; 5 all"
 FULL = opening("full")
 QUICK = FULL.replace("steady", "quick")
 UNCOVERED = """\
-not settled: a device from 0000:00000000 up may be missing
+not settled: a device from 0000:00000000 to ffff:ffffffff may be missing
 """
 UNTRIED = """\
 exchange 7 mutes a UID that neither acknowledged nor was muted five times in a row: perhaps no device has it
@@ -24,6 +24,9 @@ exchange 7 mutes a UID that neither acknowledged nor was muted five times in a r
 UNREAD = "exchange 7 mutes a UID that no earlier branch had read\n"
 # How a quick run goes on, and how it ends.
 GOES_ON = "0 devices; others may be on the line, or the log ends within the run\n"
+# The same of a quick run, if one of an older version would have ended there.
+OLD = "0 devices; others may be on the line: the run ended there if it is of an older version, or the log ends " \
+      "within it\n"
 ENDS = """\
 ended early at 1234:00000008 (it alone was asked, and the answers weren't a new device's), 0 devices; \
 others may be on the line
@@ -43,8 +46,8 @@ OFTEN = f"""\
 if your rig has no such device, split the line
 """
 IGNORES = """\
-1234:00000008 answered alone and then acknowledged no mute: it left, or broke a rule; \
-take it off the line and discover again
+1234:00000008 answered alone and then acknowledged no mute: it left, or broke a rule
+what to do: take 1234:00000008 off the line and discover again
 """
 
 FOUND = """\
@@ -62,17 +65,19 @@ the log doesn't have the run's kind
 # Its exchanges 0 to 3, exchange 3 alone, and those from 5.
 UNMUTED = """\
 discovery: full, steady, 4 exchanges, 0 devices; others may be on the line, or the log ends within the run
-not settled: a device from 0000:00000000 up may be missing
+not settled: a device from 0000:00000000 to ffff:ffffffff may be missing
 exchange 3: the UIDs from 0000:00000000 to ffff:ffffffff were asked, \
 and bytes came though no listed device was due; \
-they read as 1234:00000001, which isn't listed: name it by --present, if your rig has it
+they read as 1234:00000001, which isn't listed
+what to do: name 1234:00000001 by --present, if your rig has it
 """
 
 ALONE = """\
 discovery: 1 exchange, 0 devices; others may be on the line, as the log begins within the run
 exchange 3: the UIDs from 0000:00000000 to ffff:ffffffff were asked, \
 and bytes came though no listed device was due; \
-they read as 1234:00000001, which isn't listed: name it by --present, if your rig has it
+they read as 1234:00000001, which isn't listed
+what to do: name 1234:00000001 by --present, if your rig has it
 """
 
 CUT_BEFORE = """\
@@ -97,8 +102,9 @@ FAILING = (
 FAILED = """\
 run 1: full, 2 exchanges, ended early (the line failed), 0 devices; others may be on the line
 exchange 2 should be one of the three unmutes that begin a run
-exchange 1 failed: check the adapter and the cable
-not settled: a device from 0000:00000000 up may be missing
+exchange 1 failed
+not settled: a device from 0000:00000000 to ffff:ffffffff may be missing
+what to do: check the adapter and the cable
 """
 
 # A new session, and those of logs that continue one: no run is in progress, and discovery 1 may wait; or run 2 is in
@@ -131,7 +137,7 @@ THREE_RUNS = (
 # What one exchange leaves open.
 GAPS = """\
 exchange 1 should be one of the three unmutes that begin a run
-not settled: a device from 0000:00000000 up may be missing
+not settled: a device from 0000:00000000 to ffff:ffffffff may be missing
 """
 
 # A known device, in a run that ended too soon.
@@ -211,7 +217,7 @@ OFF_BUT_GIVEN = f"""\
 run 2: full, quick, 8 exchanges, no fault, 0 devices, but 1 listed device wasn't found; \
 no other device is on the line if all follow the rules
 {QUIET}\
-1234:00000001 was never heard: check its power, its cable, its UID and that RDM is on \
+1234:00000001 was never heard \
 (exchange 7 is the fifth silence in a row in a range that holds it)
 """
 
@@ -227,7 +233,7 @@ CROWDED = """\
 discovery: full, steady, 1028 exchanges, ended early (more than 1,024 devices answered), 1024 devices; \
 others may be on the line
 1234:00000401 acknowledged a mute, but isn't reported: a run reports at most 1,024 devices
-not settled: a device from 0000:00000000 up may be missing
+not settled: a device from 0000:00000000 to 1234:00000000 may be missing, perhaps others above it too
 exchange 3 mutes a UID that no earlier branch had read
 """ + "".join(f"1234:{number:08x} was found, and followed the rules\n" for number in range(1, 1025)) + """\
 exchange 1027: bytes came after a mute of 1234:00000401, which isn't listed; \
@@ -236,79 +242,88 @@ they may be noise, or those of a device that isn't listed
 
 # Quick runs in which several UIDs that aren't listed were answered wrongly when they were asked alone, or answered
 # alone and then no mute. The last one isn't the only one that is judged.
-ADVICE, SPLIT = "take it off the line and discover again", "if your rig has no such device, split the line"
-WRONG = f"{{}} alone was asked, and bytes came that are no right answer: {ADVICE}; {SPLIT} (exchange {{}})\n"
-NO_MUTE = f"{{}} answered alone and then acknowledged no mute: it left, or broke a rule; {ADVICE}\n"
+WRONG = "{} alone was asked, and bytes came that are no right answer; a rule was broken, by a device or noise " \
+        "(exchange {})\n"
+NO_MUTE = "{} answered alone and then acknowledged no mute: it left, or broke a rule\n"
+OFF = "what to do: take {} off the line and discover again\n"
 FIRST_WRONG = """\
 exchange {0} (and {1} more): {2} alone was asked, and bytes came that are no right answer: \
 they don't begin like a discovery reply; a rule was broken, by a device or noise: \
 take {2} off the line and discover again; \
 if your rig has no such device, split the line
 """
+# The same before an exchange that fails, and then what to do.
+WRONG_BEFORE = FIRST_WRONG[:FIRST_WRONG.index(": take")] + "\n"
+ADAPTER = "what to do: check the adapter and the cable\n"
 SPARE, NEW_ONE = "1234:00000008", "9abc:00000002"
 LIARS = (
     ("one that answers no mute, and then one that is answered wrongly",
-     "3 unmute; alone spare > spare; 5 mute spare; 4 alone liar > noise", f"13 exchanges, {GOES_ON}{UNCOVERED}"
+     "3 unmute; alone spare > spare; 5 mute spare; 4 alone liar > noise", f"13 exchanges, {OLD}{UNCOVERED}"
      + NO_MUTE.format(SPARE) + FIRST_WRONG.format(9, 3, LIAR)),
     ("two that are answered wrongly, and then one that answers no mute",
      "3 unmute; 4 alone spare > noise; 4 alone liar > noise; alone new > new; 5 mute new",
-     f"17 exchanges, {GOES_ON}{UNCOVERED}" + NO_MUTE.format(NEW_ONE) + WRONG.format(LIAR, 7)
+     f"17 exchanges, {OLD}{UNCOVERED}" + NO_MUTE.format(NEW_ONE) + WRONG.format(LIAR, 7)
      + FIRST_WRONG.format(3, 7, SPARE)),
     ("two that answer no mute, one of them twice",
      "3 unmute; alone spare > spare; 5 mute spare; alone liar > liar; 5 mute liar; alone spare > spare; 5 mute spare",
-     f"21 exchanges, {GOES_ON}{UNCOVERED}" + NO_MUTE.format(SPARE) + NO_MUTE.format(LIAR)),
+     f"21 exchanges, {OLD}{UNCOVERED}" + NO_MUTE.format(SPARE) + NO_MUTE.format(LIAR) + OFF.format(SPARE)),
     ("one of each before an exchange that fails, and another one after it",
      "3 unmute; 4 alone spare > noise; alone liar > liar; 5 mute liar; all > failed; alone new > noise",
-     "15 exchanges, 0 devices; others may be on the line\nexchange 13 failed: check the adapter and the cable\n"
-     + UNCOVERED + NO_MUTE.format(LIAR) + FIRST_WRONG.format(3, 3, SPARE)),
+     "15 exchanges, 0 devices; others may be on the line\nexchange 13 failed\n"
+     + UNCOVERED + NO_MUTE.format(LIAR) + WRONG_BEFORE.format(3, 3, SPARE) + ADAPTER),
     ("one that answers no mute, well before an exchange that fails",
      "3 unmute; alone spare > spare; 5 mute spare; 2 all; all > failed",
-     "12 exchanges, 0 devices; others may be on the line\nexchange 11 failed: check the adapter and the cable\n"
-     + UNCOVERED + NO_MUTE.format(SPARE)),
+     "12 exchanges, 0 devices; others may be on the line\nexchange 11 failed\n"
+     + UNCOVERED + NO_MUTE.format(SPARE) + ADAPTER),
     ("noise of a range, and then two of it that are answered wrongly",
      "3 unmute; lower > noise; alone spare > noise; alone liar > noise; all", f"7 exchanges, {GOES_ON}{UNCOVERED}"
      + WRONG.format(LIAR, 5) + "exchange 3 (and 2 more): the UIDs from 0000:00000000 to 7fff:ffffffff were asked, and "
      "bytes came though no listed device was due; they may be noise, or those of a device that isn't listed\n"
      + FIRST_WRONG.format(4, 1, SPARE)),
     ("a broadcast UID that is answered wrongly", "3 unmute; alone spare > noise; alone nobody > noise; all",
-     f"6 exchanges, {GOES_ON}{UNCOVERED}ffff:ffffffff alone was asked, and bytes came that are no right answer: "
-     "split the line and discover each half (exchange 4)\n" + FIRST_WRONG.format(3, 1, SPARE)),
+     f"6 exchanges, {GOES_ON}{UNCOVERED}ffff:ffffffff alone was asked, and bytes came that are no right answer; a rule "
+     "was broken, by a device or noise (exchange 4)\n" + FIRST_WRONG.format(3, 1, SPARE)),
     ("two that are answered wrongly, but have no device, as the certificate is complete",
      "3 unmute; alone spare > noise; alone liar > noise; 5 all",
      "10 exchanges, 0 devices; no other device is on the line if all follow the rules\n"
      + FIRST_WRONG.format(3, 1, SPARE)),
     ("all but a broadcast UID ruled out", "3 unmute; 5 under; 5 over; alone spare > noise",
-     "14 exchanges, 0 devices; others may be on the line, or the log ends within the run\nnot settled: "
+     f"14 exchanges, {OLD}not settled: "
      "1234:ffffffff wasn't ruled out, and perhaps UIDs above it; no device may have this one\n"
      + FIRST_WRONG.replace(" (and {1} more)", "").format(13, 0, SPARE)),
 )
 
-# One that was known, and is answered wrongly and then not at all. It has one line.
+# One that was known, and is answered wrongly and then not at all.
 KNOWN_WRONG = opening("full", LIAR).replace("steady", "quick") + discovery(
     "3 unmute; alone spare > noise; alone liar > noise; 5 alone liar")
-OF_KNOWN_WRONG = (f"discovery: full, quick, 10 exchanges, {GOES_ON}{UNCOVERED}" + WRONG.format(LIAR, 4)
+BELOW_LIAR = UNCOVERED.replace("ffff:ffffffff may be missing", f"{SPARE} may be missing, perhaps others above it too")
+NOT_HEARD = "1234:00000009 was known, and wasn't heard: exchange 9 is the fifth silence in a row in a range that " \
+            "holds it\n"
+OF_KNOWN_WRONG = (f"discovery: full, quick, 10 exchanges, {GOES_ON}{BELOW_LIAR}" + WRONG.format(LIAR, 4) + NOT_HEARD
                   + FIRST_WRONG.format(3, 1, SPARE))
 # The same after an exchange that fails, where nothing is judged.
 KNOWN_LATE = opening("full", LIAR) + discovery("3 unmute; all > failed; alone spare > noise; alone liar > noise")
 OF_KNOWN_LATE = f"""\
 discovery: full, steady, 6 exchanges, 0 devices; others may be on the line
-exchange 3 failed: check the adapter and the cable
+exchange 3 failed
 {UNCOVERED}{LIAR} was known, and wasn't found: the run ended before it was clear whether it is there
-"""
+{ADAPTER}"""
 # A device that is given, and wasn't heard; but bytes came when it alone was asked.
 NOTICED = f"""\
 discovery: full, quick, 9 exchanges, 0 devices, but 1 listed device wasn't found; \
 no other device is on the line if all follow the rules
-{LIAR} didn't answer: check its power and its cable (exchange 8 is the fifth silence in a row in a range that holds it)
+{LIAR} didn't answer (exchange 8 is the fifth silence in a row in a range that holds it)
 """ + FIRST_WRONG.replace(" (and {1} more)", "").format(3, 0, LIAR)
 # The first of them as JSON.
 JSON_WRONG = """{"passing":[],"runs":[{"exchanges":10,"kind":"full","search":"quick","first":0,"devices":0,\
 "heard":"sssnnsssss","findings":[{"judgement":"undecided","sentence":"discovery: full, quick, 10 exchanges, \
 0 devices; others may be on the line, or the log ends within the run"},\
-{"judgement":"gap","uid":"0000:00000000","sentence":"not settled: a device from 0000:00000000 up may be missing"},\
+{"judgement":"gap","uid":"0000:00000000","sentence":"not settled: a device from 0000:00000000 to 1234:00000008 may be \
+missing, perhaps others above it too"},\
 {"judgement":"garbled","uid":"1234:00000009","exchange":4,"sentence":"1234:00000009 alone was asked, and bytes came \
-that are no right answer: take it off the line and discover again; if your rig has no such device, split the line \
-(exchange 4)"},\
+that are no right answer; a rule was broken, by a device or noise (exchange 4)"},\
+{"judgement":"gone","uid":"1234:00000009","exchange":9,"sentence":"1234:00000009 was known, and wasn't heard: \
+exchange 9 is the fifth silence in a row in a range that holds it"},\
 {"judgement":"garbled","uid":"1234:00000008","exchange":3,"sentence":"exchange 3 (and 1 more): 1234:00000008 alone \
 was asked, and bytes came that are no right answer: they don't begin like a discovery reply; a rule was broken, \
 by a device or noise: take 1234:00000008 off the line and discover again; if your rig has no such device, \
@@ -317,7 +332,7 @@ split the line"}]}],"broken":true}
 
 # 18 UIDs are answered wrongly. A run of this project sets at most 16 apart.
 MANY_WRONG = QUICK + discovery("3 unmute") + misread(18, first=3)
-OF_MANY = f"discovery: full, quick, 21 exchanges, {GOES_ON}{UNCOVERED}" + "".join(
+OF_MANY = f"discovery: full, quick, 21 exchanges, {OLD}{UNCOVERED}" + "".join(
     WRONG.format(f"1234:{number:08x}", number + 2)
     for number in range(2, 17)) + FIRST_WRONG.format(3, 17, "1234:00000001")
 
@@ -356,11 +371,19 @@ def quick_runs() -> Iterator[Case]:
             ("4 alone spare > noise; alone spare; 4 alone spare > noise", 12, OFTEN.format(" (and 7 more)")),
             ("4 alone spare > noise; all > noise; 4 alone spare > noise", 12, OFTEN.format(" (and 7 more)"))):
         yield shows(f"a quick run that goes on: {answers}", QUICK + discovery(f"3 unmute; {answers}"),
-                    f"discovery: full, quick, {count} exchanges, {GOES_ON}{UNCOVERED}{said}", 3)
+                    f"discovery: full, quick, {count} exchanges, {OLD}{UNCOVERED}{said}", 3)
     failing = "4 alone spare > noise; all > failed; 4 alone spare > noise"
     yield shows("a quick run with bad answers before and after a failure", QUICK + discovery(f"3 unmute; {failing}"),
                 "discovery: full, quick, 12 exchanges, 0 devices; others may be on the line\n"
-                f"exchange 7 failed: check the adapter and the cable\n{UNCOVERED}{FEW.format(' (and 3 more)')}", 3)
+                f"exchange 7 failed\n{UNCOVERED}{WRONG_BEFORE.format(3, 3, SPARE)}{ADAPTER}", 3)
+    for answers, after in ("4", ""), ("5", " after many wrong answers of 1234:00000008"):
+        count = 3 + int(answers)
+        said = OFTEN if after else FEW
+        yield shows(f"a quick run with a budget that {answers} bad answers use up",
+                    QUICK.replace("384008", str(count)) + discovery(f"3 unmute; {answers} alone spare > noise"),
+                    f"discovery: full, quick, {count} exchanges, ended early (its budget of {count} frames is used up)"
+                    f"{after}, 0 devices; others may be on the line\n{UNCOVERED}"
+                    + said.format(f" (and {int(answers) - 1} more)"), 3)
     for answers, count in (8, 11), (9, 12):
         yield shows(f"a quick run that ends: {answers}", QUICK + discovery(f"3 unmute; {answers} alone spare > noise"),
                     f"discovery: full, quick, {count} exchanges, {ENDS}{UNCOVERED}"
@@ -378,7 +401,7 @@ def quick_runs() -> Iterator[Case]:
     yield shows("a known one that is answered wrongly after an exchange that fails", KNOWN_LATE, OF_KNOWN_LATE)
     expected = Expected(3, JSON_WRONG.encode(), b"")
     yield explained("a known one that is answered wrongly, as JSON", KNOWN_WRONG.encode(), expected, "--json")
-    for name, answers, said in (("goes on", 7, f"15 exchanges, {GOES_ON}"),
+    for name, answers, said in (("goes on", 7, f"15 exchanges, {OLD}"),
                                 ("ends", 8, f"16 exchanges, {ENDS_UNMUTED}")):
         run = discovery(f"3 unmute; {answers} alone spare > spare; 5 mute spare")
         yield shows(f"a quick run that {name} after five mutes", QUICK + run,

@@ -55,12 +55,12 @@ SHORTENED = {re.compile(line): short for line, short in (
     (rf"{UID} was found; exchange (\d+) {IN_DOUBT}", rf"\1 {FOUND} \2"),
     (f"{UID} wasn't found(?::| yet;) .* (?:until then|that the log has)", rf"\1 {MISSED}"),
     (rf"{UID} wasn't found(?:: .* is there| yet); exchange (\d+) {IN_DOUBT}", rf"\1 {MISSED} \2"),
-    (rf"{UID} (?:was never heard|didn't answer): .*\(exchange (\d+) is .*", rf"\1 {HIDDEN} \2"),
-    (rf"{UID} didn't mute: .*\(exchange (\d+) is .*", rf"\1 {UNMUTED} \2"),
-    (rf"{UID} didn't acknowledge a mute(?:: .*)? \(exchange (\d+) has .*", rf"\1 {GARBLED} \2"),
-    (rf"{UID} was found, but didn't answer: .*\(exchange (\d+) is .*", rf"\1 {FOUND}, {HIDDEN} \2"),
-    (rf"{UID} was found, but didn't mute: .*\(exchange (\d+) is .*", rf"\1 {FOUND}, {UNMUTED} \2"),
-    (rf"{SIGHTING}: .*(?:bytes came though no listed device was due|, which isn't listed)[;:] .*", r"stray \1\2"),
+    (rf"{UID} (?:was never heard|didn't answer) \(exchange (\d+) is .*", rf"\1 {HIDDEN} \2"),
+    (rf"{UID} didn't mute \(exchange (\d+) is .*", rf"\1 {UNMUTED} \2"),
+    (rf"{UID} didn't acknowledge a mute \(exchange (\d+) has .*", rf"\1 {GARBLED} \2"),
+    (rf"{UID} was found, but didn't answer \(exchange (\d+) is .*", rf"\1 {FOUND}, {HIDDEN} \2"),
+    (rf"{UID} was found, but didn't mute \(exchange (\d+) is .*", rf"\1 {FOUND}, {UNMUTED} \2"),
+    (rf"{SIGHTING}: .*(?:bytes came though no listed device was due|, which isn't listed)(?:[;:] .*)?", r"stray \1\2"),
     (rf"{SIGHTING}: .* (?:are no right answer|though it was muted|don't acknowledge it)[;:] .*", r"none \1\2"))}
 
 

@@ -90,11 +90,12 @@ EXCHANGES = (
 discovery: 1 exchange, 0 devices; others may be on the line
 exchange 0 should be one of the three unmutes that begin a run
 exchange 0 mutes a UID that neither acknowledged nor was muted five times in a row: perhaps no device has it
-not settled: a device from 0000:00000000 up may be missing
+not settled: a device from 0000:00000000 to ffff:ffffffff may be missing
 """, 0),
     (f'{{"number":18446744073709551615,"operation":"unmute","frame":"{UNMUTE}","failed":true}}\n', """\
 discovery: 1 exchange, 0 devices; others may be on the line, as the log begins within the run
-exchange 18446744073709551615 failed: check the adapter and the cable
+exchange 18446744073709551615 failed
+what to do: check the adapter and the cable
 """, 0),
     ("""\
 {"number":1,"operation":"branch",\
@@ -104,7 +105,8 @@ exchange 18446744073709551615 failed: check the adapter and the cable
 discovery: 1 exchange, 0 devices; others may be on the line, as the log begins within the run
 exchange 1: the UIDs from 0000:00000000 to ffff:ffffffff were asked, \
 and bytes came though no listed device was due; \
-they read as 1234:00000001, which isn't listed: name it by --present, if your rig has it
+they read as 1234:00000001, which isn't listed
+what to do: name 1234:00000001 by --present, if your rig has it
 """, 0),
     ("""\
 {"number":4,"operation":"mute","frame":"cc01181234000000017a7000000100040100000010000200022e","reply":"00"}
@@ -120,8 +122,9 @@ take 1234:00000001 off the line and discover again; if your rig has no such devi
 OF_UNMUTE = """\
 discovery: 1 exchange, 0 devices; others may be on the line, or the log ends within the run
 exchange 1 should be one of the three unmutes that begin a run
-not settled: a device from 0000:00000000 up may be missing
-exchange 0: bytes came after an unmute, which no device may answer: look for noise, or split the line
+not settled: a device from 0000:00000000 to ffff:ffffffff may be missing
+exchange 0: bytes came after an unmute, which no device may answer
+what to do: look for noise, or split the line
 """
 
 # What no writer of logs writes. A run's frames are unmutes, branches and mutes, each with its checksum.

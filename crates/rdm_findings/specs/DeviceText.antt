@@ -2,7 +2,6 @@
 use Rattle.std.specs.Prelude.{ℕ, Bool, true, false, ◌&&◌, ◌||◌, not, List, [], ◌++◌, Option, Some, None, codes, decimal}
 use Rattle.std.specs.Prelude.{◌==◌, if◌then◌else◌, is_some, nat_lt}
 use Rattle.std.specs.List.{list_any}
-use Rattle.rdm_wire.specs.Uid.{is_broadcast}
 use Rattle.rdm_wire.specs.UidText.{uid_text}
 use Rattle.rdm_explain.specs.declared.exchange.Exchange.{Exchange}
 use Rattle.rdm_explain.specs.declared.rule.Rule.{Rule}
@@ -18,6 +17,7 @@ use Rattle.rdm_findings.specs.declared.heard.RunUids.{RunUids}
 use Rattle.rdm_findings.specs.declared.mention.Mention.{Mention}
 use Rattle.rdm_findings.specs.declared.mention.RunFacts.{RunFacts}
 use Rattle.rdm_findings.specs.declared.misread.Misreads.{Misreads}
+use Rattle.rdm_findings.specs.BadAnswers.{is_stubborn}
 use Rattle.rdm_findings.specs.Ends.{is_garbled_mute}
 use Rattle.rdm_findings.specs.FindingText.{exchange_name, uid_finding}
 use Rattle.rdm_findings.specs.Forms.{finding}
@@ -29,27 +29,18 @@ use Rattle.rdm_findings.specs.Starts.{has_start, number_at}
 -- has, or bytes came when it alone was asked, and that the log has all of the run. Only then it was never heard
 abbrev pub silent_before : (heard whole : Bool) → List ℕ
 silent_before heard whole =
-    if whole && not heard then
-    codes " was never heard: check its power, its cable, its UID and that RDM is on (exchange "
-    else codes " didn't answer: check its power and its cable (exchange "
+    if whole && not heard then codes " was never heard (exchange " else codes " didn't answer (exchange "
 
 -- the same of five mutes in a row without an answer
-abbrev pub mutes_before : (heard : Bool) → List ℕ
-mutes_before heard =
-    if heard then codes " didn't mute: take it off the line and discover again (exchange "
-    else codes " didn't mute: check its power, its cable, its UID and that RDM is on (exchange "
+abbrev pub mutes_before : (heard whole : Bool) → List ℕ
+mutes_before heard whole =
+    if whole && not heard then codes " was never heard (exchange " else codes " didn't mute (exchange "
 
--- the same of other bytes after a mute. If the device acknowledged a mute, another one or noise may be to blame
-abbrev pub garbled_before : (acked : Bool) → List ℕ
-garbled_before acked =
-    if acked then codes " didn't acknowledge a mute (exchange "
-    else codes " didn't acknowledge a mute: take it off the line and discover again (exchange "
-
--- a breach and what to do about it, before the exchange that shows it
-abbrev pub breach_before : (heard acked whole : Bool) → Rule → List ℕ
-breach_before heard acked whole SilentBranches = silent_before heard whole
-breach_before heard acked whole SilentMutes = mutes_before heard
-breach_before heard acked whole GarbledMute = garbled_before acked
+-- a breach, before the exchange that shows it
+abbrev pub breach_before : (heard whole : Bool) → Rule → List ℕ
+breach_before heard whole SilentBranches = silent_before heard whole
+breach_before heard whole SilentMutes = mutes_before heard whole
+breach_before heard whole GarbledMute = codes " didn't acknowledge a mute (exchange "
 
 -- and after it
 abbrev pub breach_after : Rule → List ℕ
@@ -155,17 +146,15 @@ seen_at r misreads u =
 abbrev pub but_text : Bool → List ℕ
 but_text acked = if acked then codes " was found, but" else []
 
--- the rule that a device broke first, and where. The flags say that it was heard in the run, and that it acknowledged a
--- mute
-abbrev pub breach_text : RunFacts → (heard acked : Bool) → Breach → List ℕ
-breach_text r heard acked b =
-    breach_before heard acked r.whole b.rule ++ decimal (number_at r.start b.at) ++ breach_after b.rule
+-- the rule that a device broke first, and where. The flag says that it was heard in the run
+abbrev pub breach_text : RunFacts → (heard : Bool) → Breach → List ℕ
+breach_text r heard b = breach_before heard r.whole b.rule ++ decimal (number_at r.start b.at) ++ breach_after b.rule
 
 -- Whether a device was found, and which rule it broke first, if any. The flags say that it was heard in the run, and
 -- that it acknowledged a mute. The number is that of an exchange that leaves a doubt
 abbrev pub verdict_text : RunFacts → Bool → Bool → Option ℕ → Option Breach → List ℕ
 verdict_text r heard acked see None = innocent_text r acked see
-verdict_text r heard acked see (Some b) = but_text acked ++ breach_text r heard acked b
+verdict_text r heard acked see (Some b) = but_text acked ++ breach_text r heard b
 
 -- whether a device that broke no rule was found. The flag says that it acknowledged a mute
 abbrev pub unbroken_judgement : RunFacts → Bool → Judgement
@@ -200,51 +189,51 @@ device_finding form r misreads heard acked f =
     (uid_text f.uid
     ++ verdict_text r (is_noticed heard misreads f.uid) (in_uids acked f.uid) (seen_at r misreads f.uid) f.breach)
 
--- why a UID acknowledged no mute, and what to do. If bytes came after one, another device or noise may be to blame
-abbrev pub culprit_advice : (garbled : Bool) → List ℕ
-culprit_advice garbled =
-    if garbled then codes "a rule was broken, by it, another device or noise"
-    else codes "it left, or broke a rule; take it off the line and discover again"
+-- who broke a rule by bad answers after a UID was asked. If it had many, noise seldom made them all
+abbrev pub guilt_text : (stubborn : Bool) → List ℕ
+guilt_text stubborn =
+    if stubborn then codes "a rule was broken, by a device rather than noise"
+    else codes "a rule was broken, by a device or noise"
+
+-- why a UID acknowledged no mute. If bytes came after one, another device or noise may be to blame
+abbrev pub culprit_why : (garbled stubborn : Bool) → List ℕ
+culprit_why garbled stubborn = if garbled then guilt_text stubborn else codes "it left, or broke a rule"
 
 -- what is said of a UID that answered a branch of it alone, and then acknowledged no mute
-abbrev pub culprit_text : (garbled : Bool) → List ℕ
-culprit_text garbled = codes " answered alone and then acknowledged no mute: " ++ culprit_advice garbled
+abbrev pub culprit_text : (garbled stubborn : Bool) → List ℕ
+culprit_text garbled stubborn =
+    codes " answered alone and then acknowledged no mute: " ++ culprit_why garbled stubborn
 
--- the finding about such a UID. The flag says that bytes came after a mute of it
-abbrev pub culprit_found : Form → ℕ → (garbled : Bool) → List ℕ
-culprit_found form u garbled = uid_finding form judged.Unmuted u (culprit_text garbled)
+-- the finding about such a UID. The flags say that bytes came after a mute of it, and that it had many bad answers
+abbrev pub culprit_found : Form → ℕ → (garbled stubborn : Bool) → List ℕ
+culprit_found form u garbled stubborn = uid_finding form judged.Unmuted u (culprit_text garbled stubborn)
 
 -- the same in a run with these exchanges
-abbrev pub culprit_finding : Form → List Exchange → ℕ → List ℕ
-culprit_finding form xs u = culprit_found form u (list_any (is_garbled_mute u) xs)
+abbrev pub culprit_finding : Form → RunFacts → List Exchange → ℕ → List ℕ
+culprit_finding form r xs u =
+    culprit_found form u (list_any (is_garbled_mute u) xs) (is_stubborn r.failure xs u)
 
 -- The first exchange in which other bytes than its text answered a branch of u alone, unless the line about bytes that
 -- no honest line allows names u
 abbrev pub suspect_at : RunFacts → Misreads → ℕ → Option ℕ
 suspect_at r misreads u = if is_some (mentioned r.garbled u) then None else misread_at r misreads u
 
--- what to do then: it may be noise's or another's answer, and no device has a broadcast UID
-abbrev pub suspect_advice : ℕ → List ℕ
-suspect_advice u =
-    if is_broadcast u then codes "split the line and discover each half"
-    else codes "take it off the line and discover again; if your rig has no such device, split the line"
-
 -- what is said of such a UID, and of the exchange with this number
-abbrev pub suspect_text : ℕ → ℕ → List ℕ
-suspect_text u number =
-    codes " alone was asked, and bytes came that are no right answer: " ++ suspect_advice u
+abbrev pub suspect_text : (stubborn : Bool) → (number : ℕ) → List ℕ
+suspect_text stubborn number =
+    codes " alone was asked, and bytes came that are no right answer; " ++ guilt_text stubborn
     ++ (codes " (exchange " ++ decimal number ++ codes ")")
 
--- the finding about such a UID, if there is such an exchange
-abbrev pub suspect_found : Form → ℕ → Option ℕ → List ℕ
-suspect_found form u None = []
-suspect_found form u (Some number) =
+-- the finding about such a UID, if there is such an exchange. The flag says that it had many bad answers
+abbrev pub suspect_found : Form → ℕ → (stubborn : Bool) → Option ℕ → List ℕ
+suspect_found form u stubborn None = []
+suspect_found form u stubborn (Some number) =
     finding form (record { judgement = judged.Garbled; uid = Some u; exchange = Some number })
-    (uid_text u ++ suspect_text u number)
+    (uid_text u ++ suspect_text stubborn number)
 
--- the same of a UID that isn't listed
-abbrev pub suspect_finding : Form → RunFacts → Misreads → ℕ → List ℕ
-suspect_finding form r misreads u = suspect_found form u (suspect_at r misreads u)
+-- the same of a UID that isn't listed, in a run with these exchanges
+abbrev pub suspect_finding : Form → RunFacts → Misreads → List Exchange → ℕ → List ℕ
+suspect_finding form r misreads xs u = suspect_found form u (is_stubborn r.failure xs u) (suspect_at r misreads u)
 
 -- what a known UID lacks, before its exchange
 abbrev pub gone_before : Rule → List ℕ

@@ -118,6 +118,12 @@ unmuted_at found e rest =
 abbrev pub corrupt_uid : List ℕ → List Exchange → Option ℕ
 corrupt_uid found xs = first_uid (wrong_alone_in found (from_end 1 xs)) (never_muted found xs)
 
+-- whether a run searches quickly
+abbrev pub is_quick : Option Search → Bool
+is_quick (Some Quick) = true
+is_quick (Some Steady) = false
+is_quick None = false
+
 -- Whether a run that searches like this ends as Corrupt once its exchanges show that of this UID: a quick one does so
 -- only after eight bad answers of it alone in a row
 abbrev pub are_enough : Option Search → ℕ → List Exchange → Bool

@@ -1,7 +1,7 @@
 -- The text of findings about a run: one finding a line.
 use Rattle.std.specs.Prelude.{ℕ, Bool, false, ◌&&◌, ◌||◌, List, [], ◌∷◌, ◌++◌, Option, Some, None, codes, decimal}
 use Rattle.std.specs.Prelude.{length, slice_get, is_some, ◌==◌, if◌then◌else◌, true}
-use Rattle.std.specs.List.{list_all, position}
+use Rattle.std.specs.List.{list_all}
 use Rattle.rdm_wire.specs.Honest.{is_silent}
 use Rattle.rdm_wire.specs.Uid.{is_broadcast, is_within}
 use Rattle.rdm_wire.specs.UidText.{uid_text}
@@ -16,9 +16,9 @@ use Rattle.rdm_agent.specs.declared.fault.AgentFault.TheVariants.{Corrupt, TooMa
 use Rattle.rdm_explain.specs.declared.certificate.RunFinding.{RunFinding}
 use Rattle.rdm_explain.specs.declared.certificate.KnownFinding.{KnownFinding}
 use Rattle.rdm_explain.specs.declared.exchange.Asked.{Asked}
-use Rattle.rdm_explain.specs.declared.exchange.Asked.TheVariants.{Unmute, Branch, Mute}
+use Rattle.rdm_explain.specs.declared.exchange.Asked.TheVariants.{Branch, Mute}
 use Rattle.rdm_explain.specs.declared.exchange.Heard.{Heard}
-use Rattle.rdm_explain.specs.declared.exchange.Heard.TheVariants.{Failed, One, Silent}
+use Rattle.rdm_explain.specs.declared.exchange.Heard.TheVariants.{One}
 use Rattle.rdm_explain.specs.declared.exchange.Exchange.{Exchange}
 use Rattle.rdm_explain.specs.declared.rule.DeviceFinding.{DeviceFinding}
 use Rattle.rdm_explain.specs.declared.sighting.Sighting.{Sighting}
@@ -36,9 +36,10 @@ use Rattle.rdm_findings.specs.declared.form.Form.{Form}
 use Rattle.rdm_findings.specs.declared.form.Judgement.{Judgement}
 use Rattle.rdm_findings.specs.declared.form.Judgement.TheVariants as judged
 use Rattle.rdm_findings.specs.Ends.{is_complete, is_known_complete, is_over, is_lost, end_of, decides_stray}
-use Rattle.rdm_findings.specs.Ends.{never_muted}
+use Rattle.rdm_findings.specs.Ends.{corrupt_uid, is_quick, never_muted}
 use Rattle.rdm_findings.specs.Flaws.{flaw_text}
 use Rattle.rdm_findings.specs.Forms.{finding, after_sentence, of_run, of_exchange, of_uid}
+use Rattle.rdm_findings.specs.OpenRanges.{uncovered_gap}
 use Rattle.rdm_findings.specs.RunJson.{run_start}
 use Rattle.rdm_findings.specs.Starts.{has_start, number_at}
 use Rattle.rdm_findings.specs.StrayBytes.{sign_of}
@@ -100,14 +101,19 @@ abbrev pub is_this : Option ℕ → ℕ → Bool
 is_this None u = false
 is_this (Some v) u = v == u
 
--- what its fault is, in words. The second one is the UID that answered alone and then acknowledged no mute, if the
--- last exchanges show one
-abbrev pub reason_text : (budget unmuted : Option ℕ) → AgentFault → List ℕ
-reason_text budget unmuted (Corrupt u) = corrupt_text (is_this unmuted u)
-reason_text budget unmuted TooMany = codes " (more than 1,024 devices answered)"
-reason_text budget unmuted Exhausted = spent_text budget
-reason_text budget unmuted LineFailed = codes " (the line failed)"
-reason_text budget unmuted Aborted = codes " (it was aborted)"
+-- after how many answers a budget was used up, if a UID had many wrong ones
+abbrev pub wrongs_text : (stubborn : Option ℕ) → List ℕ
+wrongs_text None = []
+wrongs_text (Some u) = codes " after many wrong answers of " ++ uid_text u
+
+-- What its fault is, in words. The second one is the UID that answered alone and then acknowledged no mute, if the
+-- last exchanges show one. The third one is a UID that had many wrong answers, if there is one
+abbrev pub reason_text : (budget unmuted stubborn : Option ℕ) → AgentFault → List ℕ
+reason_text budget unmuted stubborn (Corrupt u) = corrupt_text (is_this unmuted u)
+reason_text budget unmuted stubborn TooMany = codes " (more than 1,024 devices answered)"
+reason_text budget unmuted stubborn Exhausted = spent_text budget ++ wrongs_text stubborn
+reason_text budget unmuted stubborn LineFailed = codes " (the line failed)"
+reason_text budget unmuted stubborn Aborted = codes " (it was aborted)"
 
 -- that it ended early, and at which UID, if its answers ended it
 abbrev pub early_text : AgentFault → List ℕ
@@ -115,38 +121,46 @@ early_text (Corrupt u) = codes "ended early at " ++ uid_text u
 early_text _ = codes "ended early"
 
 -- how it ended, if that is known
-abbrev pub end_text : (budget unmuted : Option ℕ) → Option (Option AgentFault) → List ℕ
-end_text budget unmuted None = []
-end_text budget unmuted (Some None) = codes ", no fault"
-end_text budget unmuted (Some (Some fault)) = codes ", " ++ early_text fault ++ reason_text budget unmuted fault
+abbrev pub end_text : (budget unmuted stubborn : Option ℕ) → Option (Option AgentFault) → List ℕ
+end_text budget unmuted stubborn None = []
+end_text budget unmuted stubborn (Some None) = codes ", no fault"
+end_text budget unmuted stubborn (Some (Some fault)) =
+    codes ", " ++ early_text fault ++ reason_text budget unmuted stubborn fault
 
 -- a certificate of which no part fails but those that depend on known UIDs. It shows that no device is on the line but
 -- those that the run reports, unless one broke a rule
 abbrev pub sound_text : Option Kind → Option KnownFinding → List ℕ
 sound_text kind (Some names) =
     if is_known_complete names then codes "; no other device is on the line if all follow the rules"
-    else codes "; no other device is on the line if all follow the rules, but the run isn't regular: discover again; "
-    ++ codes "if this comes again, suspect the controller or its log"
+    else codes "; no other device is on the line if all follow the rules, but the run isn't regular"
 sound_text None None =
     codes "; no other device is on the line if all follow the rules; the log doesn't have the run's kind"
 sound_text (Some kind) None =
     codes "; no other device is on the line if all follow the rules; the log doesn't have the run's known devices"
 
--- a certificate of which a part fails. If that isn't decided, exchanges that the log doesn't have may mend it
-abbrev pub gap_text : Bool → List ℕ
-gap_text decided =
+-- Whether a quick run of an older version ended here: a bad answer of one UID alone came, or a UID answered alone and
+-- then acknowledged no mute. Newer versions go on, unless such answers come eight times in a row
+abbrev pub may_be_old : RunHead → List Device → List Exchange → Bool
+may_be_old head reported xs = is_quick head.search && is_some (corrupt_uid (uids_of reported) xs)
+
+-- A certificate of which a part fails. If that isn't decided, exchanges that the log doesn't have may mend it. `old`
+-- says that a run of an older version would have ended here
+abbrev pub gap_text : (decided old : Bool) → List ℕ
+gap_text decided old =
     if decided then codes "; others may be on the line"
-    else codes "; others may be on the line, or the log ends within the run"
+    else (if old then
+    codes "; others may be on the line: the run ended there if it is of an older version, or the log ends within it"
+    else codes "; others may be on the line, or the log ends within the run")
 
 -- the certificate, by the findings about its parts, if the log has the run's beginning
-abbrev pub begun_text : RunHead → Bool → RunFinding → Option KnownFinding → List ℕ
-begun_text head decided f names = if is_complete f then sound_text head.kind names else gap_text decided
+abbrev pub begun_text : RunHead → (decided old : Bool) → RunFinding → Option KnownFinding → List ℕ
+begun_text head decided old f names = if is_complete f then sound_text head.kind names else gap_text decided old
 
 -- the certificate; or why it can't be decided
-abbrev pub certificate_text : RunHead → Bool → RunFinding → Option KnownFinding → List ℕ
-certificate_text head decided f names = elim head.start [
+abbrev pub certificate_text : RunHead → (decided old : Bool) → RunFinding → Option KnownFinding → List ℕ
+certificate_text head decided old f names = elim head.start [
   | At number ↦
-      if number == 0 then begun_text head decided f names
+      if number == 0 then begun_text head decided old f names
       else codes "; others may be on the line, as the log begins within the run"
   | Later ↦ codes "; others may be on the line, as the log begins within the run; exchanges count from there"
   | Unknown ↦ codes "; others may be on the line, as the log may begin within the run; exchanges count from there"
@@ -182,36 +196,39 @@ abbrev pub devices_count : (devices missing : ℕ) → List ℕ
 devices_count devices missing = count_text devices (codes " device") ++ missing_text missing
 
 -- how it ended, and how many devices it reports
-abbrev pub outcome_text : (budget unmuted : Option ℕ) → Option (Option AgentFault) → (devices missing : ℕ) → List ℕ
-outcome_text budget unmuted ending devices missing =
-    end_text budget unmuted ending ++ codes ", " ++ devices_count devices missing
+abbrev pub outcome_text : (budget unmuted stubborn : Option ℕ) → Option (Option AgentFault) → (devices missing : ℕ)
+    → List ℕ
+outcome_text budget unmuted stubborn ending devices missing =
+    end_text budget unmuted stubborn ending ++ codes ", " ++ devices_count devices missing
 
 -- what the run was, how many exchanges it had, how it ended, if that is known, and how many devices it had
-abbrev pub head_text : RunHead → (unmuted : Option ℕ) → Option (Option AgentFault) → (exchanges devices missing : ℕ)
-    → List ℕ
-head_text head unmuted ending exchanges devices missing =
+abbrev pub head_text : RunHead → (unmuted stubborn : Option ℕ) → Option (Option AgentFault)
+    → (exchanges devices missing : ℕ) → List ℕ
+head_text head unmuted stubborn ending exchanges devices missing =
     what_text head ++ count_text exchanges (codes " exchange")
-    ++ outcome_text head.budget unmuted ending devices missing
+    ++ outcome_text head.budget unmuted stubborn ending devices missing
 
 -- whether gaps of the certificate are those of the run, and not only of its log: no exchange came after these, or none
 -- could mend them
 abbrev pub decides_gaps : RunHead → List Device → List Exchange → RunFinding → Option KnownFinding → Bool
 decides_gaps head reported xs f names = is_over head reported xs f || is_lost xs f names
 
--- what a run's first finding says. It didn't find so many listed devices
-abbrev pub head_sentence : RunHead → List Device → (missing : ℕ) → List Exchange → RunFinding → Option KnownFinding
-    → List ℕ
-head_sentence head reported missing xs f names =
-    head_text head (never_muted (uids_of reported) xs) (end_of head reported xs f) (length xs) (length reported) missing
-    ++ certificate_text head (decides_gaps head reported xs f names) f names
+-- What a run's first finding says. It didn't find so many listed devices. `stubborn` is a UID that had many wrong
+-- answers, if there is one
+abbrev pub head_sentence : RunHead → List Device → (missing : ℕ) → (stubborn : Option ℕ) → List Exchange → RunFinding
+    → Option KnownFinding → List ℕ
+head_sentence head reported missing stubborn xs f names =
+    head_text head (never_muted (uids_of reported) xs) stubborn (end_of head reported xs f) (length xs)
+    (length reported) missing
+    ++ certificate_text head (decides_gaps head reported xs f names) (may_be_old head reported xs) f names
 
 -- the first finding of a run
-abbrev pub head_finding : Form → RunHead → List Device → (missing : ℕ) → List Exchange → RunFinding
-    → Option KnownFinding → List ℕ
-head_finding form head reported missing xs f names =
+abbrev pub head_finding : Form → RunHead → List Device → (missing : ℕ) → (stubborn : Option ℕ) → List Exchange
+    → RunFinding → Option KnownFinding → List ℕ
+head_finding form head reported missing stubborn xs f names =
     run_start form head (end_of head reported xs f) (length reported) xs
     (of_run (run_judgement head (decides_gaps head reported xs f names) f names))
-    ++ (head_sentence head reported missing xs f names ++ after_sentence form)
+    ++ (head_sentence head reported missing stubborn xs f names ++ after_sentence form)
 
 -- a part of the certificate that fails at an exchange
 abbrev pub exchange_gap : Form → Judgement → Option ℕ → List ℕ → List ℕ
@@ -230,7 +247,7 @@ device_gap form (Some d) text = uid_finding form judged.Gap d.uid text
 
 -- an exchange that failed
 abbrev pub failed_text : List ℕ
-failed_text = codes " failed: check the adapter and the cable"
+failed_text = codes " failed"
 
 -- the parts about the unmutes, failed exchanges and the reported devices
 abbrev pub start_gaps : Form → RunFinding → List ℕ
@@ -240,37 +257,12 @@ start_gaps form f =
     ++ uid_gap form f.misreported
     (codes " acknowledged a mute, but isn't reported: a run reports at most 1,024 devices")
 
--- whether this is the greatest UID, which addresses all devices
-abbrev pub is_greatest : ℕ → Bool
-is_greatest u = u == 281474976710655
-
--- What a sentence says before the first UID that wasn't ruled out. If that is the greatest one, all others were. No
--- device may have a broadcast UID, and those above it may have been ruled out
-abbrev pub uncovered_before : ℕ → List ℕ
-uncovered_before u =
-    if is_greatest u then []
-    else (if is_broadcast u then codes "not settled: " else codes "not settled: a device from ")
-
--- and after it
-abbrev pub uncovered_after : ℕ → List ℕ
-uncovered_after u =
-    if is_greatest u then codes " alone wasn't ruled out, and no device may have it"
-    else (if is_broadcast u then codes " wasn't ruled out, and perhaps UIDs above it; no device may have this one"
-    else codes " up may be missing")
-
--- the part about the first UID that wasn't ruled out, if there is one
-abbrev pub uncovered_gap : Form → Option ℕ → List ℕ
-uncovered_gap form None = []
-uncovered_gap form (Some u) =
-    finding form (of_uid judged.Gap u)
-    (uncovered_before u ++ uid_text u ++ uncovered_after u)
-
 -- the parts about mutes, UIDs that weren't ruled out, and what is reported of a device
 abbrev pub end_gaps : Form → RunFinding → List ℕ
 end_gaps form f =
     exchange_gap form judged.Gap f.untried
     (codes " mutes a UID that neither acknowledged nor was muted five times in a row: perhaps no device has it")
-    ++ uncovered_gap form f.uncovered
+    ++ uncovered_gap form f.uncovered f.uncovered_to
     ++ device_gap form f.other_data (codes " isn't reported as in its first acknowledgement")
 
 -- the parts of the certificate that fail
@@ -344,20 +336,19 @@ sign_text asked (signs.Listed u) = codes "; they read as " ++ uid_text u ++ sile
 sign_text asked (signs.Other u) = codes "; they read as " ++ uid_text u ++ codes ", which isn't listed"
 sign_text asked signs.Unread = []
 
--- what to do about bytes. The flag says that they show that a rule was broken, unless their sender comes or leaves.
+-- Who may have sent bytes. The flag says that they show that a rule was broken, unless their sender comes or leaves.
 -- Without it another device may have sent them. In both cases it need not be the one that they read as
-abbrev pub advice_text : Bool → Sign → List ℕ
-advice_text true (signs.Listed u) = codes ": take it off the line and discover again"
-advice_text false (signs.Listed u) = codes "; or another device sent them"
-advice_text true (signs.Other u) = codes "; a rule was broken: name it by --present, if your rig has it"
-advice_text false (signs.Other u) = codes ": name it by --present, if your rig has it"
-advice_text true signs.Unread =
-    codes "; a rule was broken: look for noise, a device that isn't listed, or one that should be silent there"
-advice_text false signs.Unread = codes "; they may be noise, or those of a device that isn't listed"
+abbrev pub sender_text : Bool → Sign → List ℕ
+sender_text true (signs.Listed u) = []
+sender_text false (signs.Listed u) = codes "; or another device sent them"
+sender_text true (signs.Other u) = codes "; a rule was broken"
+sender_text false (signs.Other u) = []
+sender_text true signs.Unread = codes "; a rule was broken"
+sender_text false signs.Unread = codes "; they may be noise, or those of a device that isn't listed"
 
 -- about stray bytes that came after this
 abbrev pub stray_text : Bool → Asked → Sign → List ℕ
-stray_text decided asked sign = place_text asked ++ sign_text asked sign ++ advice_text decided sign
+stray_text decided asked sign = place_text asked ++ sign_text asked sign ++ sender_text decided sign
 
 -- whether stray bytes show that a rule was broken
 abbrev pub stray_judgement : Bool → Judgement
@@ -424,6 +415,13 @@ off_text found u =
     if is_broadcast u then codes "split the line and discover each half"
     else codes "take " ++ uid_text u ++ after_take found
 
+-- whether a device or noise broke a rule, if nothing is said of what to do. The flag says that the UID that was asked
+-- had many bad answers
+abbrev pub guilt_after : (stubborn : Bool) → List ℕ
+guilt_after stubborn =
+    if stubborn then codes "; a rule was broken, by a device rather than noise"
+    else codes "; a rule was broken, by a device or noise"
+
 -- whether a device or noise broke a rule
 abbrev pub who_text : Cause → List ℕ
 who_text (causes.Device found) = codes "; a rule was broken, by a device rather than noise: "
@@ -433,13 +431,19 @@ who_text _ = codes "; a rule was broken, by a device or noise: "
 abbrev pub then_text : ℕ → List ℕ
 then_text u = if is_broadcast u then [] else codes "; then " ++ uid_text u
 
--- what to do first, if a run ended at v
+-- what to do, if a run ended at v
 abbrev pub end_off : ℕ → List ℕ
-end_off v = codes "first take " ++ uid_text v ++ codes ", at which the run ended, off the line and discover again"
+end_off v = codes "take " ++ uid_text v ++ codes ", at which the run ended, off the line and discover again"
 
--- and then about u
+-- what to do, if v had many bad answers and u had not
+abbrev pub stubborn_off : ℕ → List ℕ
+stubborn_off v =
+    if is_broadcast v then codes "split the line and discover each half"
+    else codes "take " ++ uid_text v ++ codes ", which had many wrong answers, off the line and discover again"
+
+-- what to do first, if a run ended at v, and then about u
 abbrev pub first_off : (v u : ℕ) → List ℕ
-first_off v u = end_off v ++ then_text u
+first_off v u = codes "first " ++ end_off v ++ then_text u
 
 -- what is probably to blame for bytes that no honest line allows, whichever devices are on it, after u was asked, and
 -- what to do
@@ -451,21 +455,32 @@ cause_text causes.Found u =
     codes "; a rule was broken, probably by noise: " ++ uid_text u
     ++ codes " was found all the same; if it happens again, take it off the line and discover again"
 cause_text causes.Gone u =
-    codes "; a rule was broken, probably by noise if you took " ++ uid_text u
-    ++ codes " away; if it is still there, check its power and its cable"
+    codes "; a rule was broken, perhaps by noise if you took " ++ uid_text u
+    ++ codes " away; if it is still there, check its power and its cable, and discover again"
 cause_text (causes.Device found) u = who_text (causes.Device found) ++ off_text found u
 cause_text (causes.Unclear found) u = who_text (causes.Unclear found) ++ off_text found u
 cause_text (causes.Other v) u = who_text (causes.Other v) ++ first_off v u
+cause_text (causes.Ended v) u = who_text (causes.Ended v) ++ end_off v
+cause_text (causes.Stubborn v) u = who_text (causes.Stubborn v) ++ stubborn_off v
+cause_text (causes.Failed stubborn) u = guilt_after stubborn
 
--- what to do after a branch of u alone that reads as v
+-- what to do after a branch of u alone that reads as v. If the device of u may be gone, it can't be taken off the line
 abbrev pub turns_text : Cause → (u v : ℕ) → List ℕ
 turns_text (causes.Other w) u v = first_off w u
+turns_text (causes.Ended w) u v = end_off w
+turns_text (causes.Stubborn w) u v = stubborn_off w
+turns_text causes.Gone u v = off_text true v
 turns_text _ u v = off_text true v ++ then_text u
+
+-- the same, and whether a device or noise broke a rule
+abbrev pub blame_text : Cause → (u v : ℕ) → List ℕ
+blame_text (causes.Failed stubborn) u v = guilt_after stubborn
+blame_text cause u v = who_text cause ++ turns_text cause u v
 
 -- The same after a branch of u alone, if the bytes are the text of v. Device v may have sent its own UID; but u or
 -- another one may have sent it, or replies that collide read so
 abbrev pub both_text : Cause → (u v : ℕ) → List ℕ
-both_text cause u v = codes "; they read as " ++ uid_text v ++ (who_text cause ++ turns_text cause u v)
+both_text cause u v = codes "; they read as " ++ uid_text v ++ blame_text cause u v
 
 -- why bytes are no right answer, if that is known
 abbrev pub why_text : Option Flaw → List ℕ
@@ -490,23 +505,28 @@ other_bytes cause flaw u heard =
 -- sent its UID
 abbrev pub same_why : ℕ → List ℕ
 same_why u =
-    if is_broadcast u then codes " alone was asked and answered, though no device may have it; a rule was broken: "
+    if is_broadcast u then codes " alone was asked and answered, though no device may have it; a rule was broken"
     else
-    codes " alone was asked and answered, though it was muted: it restarted or broke a rule, or another has its UID; "
+    codes " alone was asked and answered, though it was muted: it restarted or broke a rule, or another has its UID"
 
 -- what to do about u
 abbrev pub off_advice : ℕ → List ℕ
 off_advice u =
-    if is_broadcast u then codes "split the line and discover each half"
-    else codes "take it off the line and discover again"
+    if is_broadcast u then codes ": split the line and discover each half"
+    else codes "; take it off the line and discover again"
+
+-- the same, unless an exchange failed
+abbrev pub same_advice : Cause → ℕ → List ℕ
+same_advice (causes.Failed stubborn) u = []
+same_advice _ u = off_advice u
 
 -- both
-abbrev pub same_text : ℕ → List ℕ
-same_text u = same_why u ++ off_advice u
+abbrev pub same_text : Cause → ℕ → List ℕ
+same_text cause u = same_why u ++ same_advice cause u
 
 -- the same, or other bytes
 abbrev pub own_text : Cause → Option Flaw → ℕ → Heard → List ℕ
-own_text cause flaw u (Heard.One v) = if v == u then same_text u else other_bytes cause flaw u (Heard.One v)
+own_text cause flaw u (Heard.One v) = if v == u then same_text cause u else other_bytes cause flaw u (Heard.One v)
 own_text cause flaw u heard = other_bytes cause flaw u heard
 
 -- bytes that don't acknowledge a mute of u
@@ -542,32 +562,6 @@ abbrev pub garbled_finding : Form → Start → Cause → Option Flaw → List E
 garbled_finding form start cause flaw xs None = []
 garbled_finding form start cause flaw xs (Some s) =
     garbled_found form (number_at start s.at) s.more cause flaw (slice_get xs s.at)
-
--- whether bytes came
-abbrev pub is_loud : Heard → Bool
-is_loud Failed = false
-is_loud Silent = false
-is_loud _ = true
-
--- whether bytes came after an unmute of all devices, which none may answer
-abbrev pub answers_unmute : Asked → Heard → Bool
-answers_unmute Unmute heard = is_loud heard
-answers_unmute _ heard = false
-
--- the same of an exchange
-abbrev pub is_answered_unmute : Exchange → Bool
-is_answered_unmute e = answers_unmute e.asked e.heard
-
--- about bytes that came after the unmute with this index, if there are any. They count against nobody
-abbrev pub answered_at : Form → Start → Option ℕ → List ℕ
-answered_at form start None = []
-answered_at form start (Some at) =
-    exchange_finding form judged.Answered (number_at start at)
-    (codes ": bytes came after an unmute, which no device may answer: look for noise, or split the line")
-
--- the finding about the first unmute that was answered, if there is one
-abbrev pub answered_finding : Form → Start → List Exchange → List ℕ
-answered_finding form start xs = answered_at form start (position is_answered_unmute xs)
 
 -- whether a device broke a rule
 abbrev pub any_broke : List DeviceFinding → Bool

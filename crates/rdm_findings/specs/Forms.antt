@@ -27,6 +27,7 @@ judgement_name judged.Stray = codes "stray"
 judgement_name judged.Unexplained = codes "unexplained"
 judgement_name judged.Garbled = codes "garbled"
 judgement_name judged.Answered = codes "answered"
+judgement_name judged.Order = codes "order"
 judgement_name judged.Passing = codes "passing"
 judgement_name judged.Unjudged = codes "unjudged"
 

@@ -8,9 +8,14 @@ pub mod HeardUids
 pub mod StrayBytes
 pub mod Forms
 pub mod RunJson
+pub mod OpenRanges
 pub mod FindingText
+pub mod UnmuteText
 pub mod Mentions
+pub mod BadAnswers
 pub mod DeviceText
+pub mod Passing
+pub mod Orders
 pub mod Explained
 pub mod Runs
 pub mod Logs

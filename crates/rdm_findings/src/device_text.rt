@@ -1,7 +1,6 @@
 //! What is printed about devices.
 ghost use Rattle.std.specs.Prelude.{◌≡◌, ◌++◌, false, OnOk, codes, decimal, flat_map};
-ghost use Rattle.rdm_findings.specs.DeviceText.{silent_before, mutes_before, garbled_before};
-ghost use Rattle.rdm_findings.specs.DeviceText.{breach_before, breach_after};
+ghost use Rattle.rdm_findings.specs.DeviceText.{silent_before, mutes_before, breach_before, breach_after};
 ghost use Rattle.rdm_findings.specs.DeviceText.{followed_text, until_text, over_text};
 ghost use Rattle.rdm_findings.specs.DeviceText.{yet_text, yet_doubt, found_text, missed_text, calm_text};
 ghost use Rattle.rdm_findings.specs.DeviceText.{unbroken_text, unfound_doubt, before_doubt, doubt_text};
@@ -70,8 +69,8 @@ fn write_device(
     )
 }
 
-// Whether its text was read, its mute was acknowledged, or bytes came when it alone was asked.
-fn is_noticed(heard: &RunUids, misreads: &Misreads, uid: Uid) -> bool
+/// Whether its text was read, its mute was acknowledged, or bytes came when it alone was asked.
+pub(crate) fn is_noticed(heard: &RunUids, misreads: &Misreads, uid: Uid) -> bool
     ensures { result ≡ is_noticed heard.now misreads.now uid }
 {
     heard.contains(uid) || misreads.first(uid).is_some()
@@ -165,10 +164,10 @@ fn write_broken(
     breach: Breach,
 ) -> Result<(), AllocError>
     ensures { OnOk result (text.new.items ≡ text.old.items
-        ++ (but_text acked ++ breach_text facts.now heard acked breach)) }
+        ++ (but_text acked ++ breach_text facts.now heard breach)) }
 {
     write(text, but_text(acked))?;
-    write_breach(text, facts, heard, acked, breach)
+    write_breach(text, facts, heard, breach)
 }
 
 fn but_text(acked: bool) -> &'static str
@@ -181,12 +180,11 @@ fn write_breach(
     text: &mut Vec<u8>,
     facts: &RunFacts,
     heard: bool,
-    acked: bool,
     breach: Breach,
 ) -> Result<(), AllocError>
-    ensures { OnOk result (text.new.items ≡ text.old.items ++ breach_text facts.now heard acked breach) }
+    ensures { OnOk result (text.new.items ≡ text.old.items ++ breach_text facts.now heard breach) }
 {
-    write(text, breach_before(heard, acked, facts.whole, breach.rule))?;
+    write(text, breach_before(heard, facts.whole, breach.rule))?;
     write_number(text, facts.start.number(breach.at))?;
     write(text, breach_after(breach.rule))
 }
@@ -374,24 +372,13 @@ fn write_until_failure(text: &mut Vec<u8>, number: u64) -> Result<(), AllocError
     write(text, " failed")
 }
 
-fn breach_before(heard: bool, acked: bool, whole: bool, rule: Rule) -> &'static str
-    ensures { result.now ≡ breach_before heard acked whole rule }
+fn breach_before(heard: bool, whole: bool, rule: Rule) -> &'static str
+    ensures { result.now ≡ breach_before heard whole rule }
 {
     match rule {
         Rule::SilentBranches => silent_before(heard, whole),
-        Rule::SilentMutes => mutes_before(heard),
-        Rule::GarbledMute => garbled_before(acked),
-    }
-}
-
-// If it acknowledged a mute, another one or noise may be to blame.
-fn garbled_before(acked: bool) -> &'static str
-    ensures { result.now ≡ garbled_before acked }
-{
-    if acked {
-        " didn't acknowledge a mute (exchange "
-    } else {
-        " didn't acknowledge a mute: take it off the line and discover again (exchange "
+        Rule::SilentMutes => mutes_before(heard, whole),
+        Rule::GarbledMute => " didn't acknowledge a mute (exchange ",
     }
 }
 
@@ -400,19 +387,20 @@ fn silent_before(heard: bool, whole: bool) -> &'static str
     ensures { result.now ≡ silent_before heard whole }
 {
     if whole && !heard {
-        " was never heard: check its power, its cable, its UID and that RDM is on (exchange "
+        " was never heard (exchange "
     } else {
-        " didn't answer: check its power and its cable (exchange "
+        " didn't answer (exchange "
     }
 }
 
-fn mutes_before(heard: bool) -> &'static str
-    ensures { result.now ≡ mutes_before heard }
+// The same of five mutes in a row without an answer.
+fn mutes_before(heard: bool, whole: bool) -> &'static str
+    ensures { result.now ≡ mutes_before heard whole }
 {
-    if heard {
-        " didn't mute: take it off the line and discover again (exchange "
+    if whole && !heard {
+        " was never heard (exchange "
     } else {
-        " didn't mute: check its power, its cable, its UID and that RDM is on (exchange "
+        " didn't mute (exchange "
     }
 }
 

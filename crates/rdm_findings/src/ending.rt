@@ -284,7 +284,7 @@ fn answered_again(uid: Uid, times: usize, exchange: &Exchange) -> usize
 }
 
 // The same, if the run begins by its unmutes, and no exchange failed.
-fn corrupt_uid(found: &DeviceSet, exchanges: &[Exchange]) -> Option<Uid>
+pub(crate) fn corrupt_uid(found: &DeviceSet, exchanges: &[Exchange]) -> Option<Uid>
     ensures { result ≡ corrupt_uid (uids_of found.now) exchanges.now }
 {
     match wrong_alone_in(found, from_end(1, exchanges)) {

@@ -2,20 +2,17 @@
 ghost use Rattle.std.specs.Prelude.{◌≡◌, ◌++◌, IfOk, OnOk, option_copied};
 ghost use Rattle.rdm_explain.specs.Rules.{AreFirstBreaches, uids_of_findings};
 ghost use Rattle.rdm_explain.specs.Strays.{FirstStray};
-ghost use Rattle.rdm_findings.specs.FindingText.{any_broke, garbled_finding, stray_finding, unless_garbled};
+ghost use Rattle.rdm_findings.specs.FindingText.{any_broke, garbled_finding, stray_finding};
 ghost use Rattle.rdm_findings.specs.Ends.{decides_stray};
 ghost use Rattle.rdm_findings.specs.Explained.{first_of, ExplainsNames, Finds, gone_of};
-ghost use Rattle.rdm_findings.specs.Explained.{findings_text, IsExplained, shows_all, is_broken, stray_of, facts_of};
+ghost use Rattle.rdm_findings.specs.Explained.{findings_text, IsExplained, is_broken, stray_of, facts_of, cause_of};
 ghost use Rattle.rdm_findings.specs.Explained.{devices_text, others_text, bytes_text, run_text};
-ghost use Rattle.rdm_findings.specs.Explained.{missing_of, missing_in};
-ghost use Rattle.rdm_findings.specs.Explained.{any_about, cause_at, cause_by, cause_of, is_calm, is_only};
-ghost use Rattle.rdm_findings.specs.Explained.{calm_cause, device_cause, is_nobody, unfound_cause};
+ghost use Rattle.rdm_findings.specs.Orders.{order_finding, order_of};
 ghost use Rattle.rdm_findings.specs.RunJson.{before_run, run_end};
 
-use crate::cause::{Cause, is_stubborn, other_end, unclear_cause};
+use crate::blame::{cause_of, missing_in, shows_all, stray_of, stubborn_of};
 use crate::device_text::write_devices;
-use crate::ending::{decides_stray, end_of, is_whole};
-use crate::flaw::may_be_noise;
+use crate::ending::decides_stray;
 use crate::form::Form;
 use crate::gap_text::{write_quiet, write_run_gaps};
 use crate::garbled_text::write_garbled;
@@ -23,9 +20,10 @@ use crate::gone_text::{write_culprits, write_gone, write_suspects};
 use crate::head::RunHead;
 use crate::head_text::write_head;
 use crate::heard::{RunUids, acknowledged_uids, heard_uids};
-use crate::listing::{culprits_of, gone_of, has, listed, suspects_of, with_passing};
-use crate::mention::{Mention, RunFacts, garbled_mention, stray_mention};
+use crate::listing::{culprits_of, gone_of, listed, suspects_of, with_passing};
+use crate::mention::{RunFacts, garbled_mention, stray_mention};
 use crate::misread::Misreads;
+use crate::order::write_order;
 use crate::run_json::{write_before_run, write_run_end};
 use crate::stray_text::write_stray;
 use crate::unmute_text::write_answered;
@@ -48,28 +46,28 @@ pub struct Explained {
     pub is_broken: bool,
 }
 
-// The findings about a run, and the devices that it reports.
+/// The findings about a run, and the devices that it reports.
 #[derive(Drop)]
-struct Findings {
-    reported: DeviceSet,
-    certificate: RunFinding,
-    names: Option<KnownFinding>,
-    devices: Vec<DeviceFinding>,
-    // The UIDs that answered alone, and then acknowledged no mute.
-    culprits: Vec<Uid>,
-    // The listed devices, those that come or leave, and those that acknowledged no mute.
-    due: Vec<Uid>,
-    // Others that were answered wrongly when they were asked alone.
-    suspects: Vec<Uid>,
-    // Other known UIDs that acknowledged no mute.
-    gone: Vec<DeviceFinding>,
-    stray: Option<Sighting>,
-    garbled: Option<Sighting>,
-    misreads: Misreads,
-    heard: RunUids,
-    acked: RunUids,
-    // Whether devices are listed by `--present` or the rig.
-    expects: bool,
+pub(crate) struct Findings {
+    pub(crate) reported: DeviceSet,
+    pub(crate) certificate: RunFinding,
+    pub(crate) names: Option<KnownFinding>,
+    pub(crate) devices: Vec<DeviceFinding>,
+    /// The UIDs that answered alone, and then acknowledged no mute.
+    pub(crate) culprits: Vec<Uid>,
+    /// The listed devices, those that come or leave, and those that acknowledged no mute.
+    pub(crate) due: Vec<Uid>,
+    /// Others that were answered wrongly when they were asked alone.
+    pub(crate) suspects: Vec<Uid>,
+    /// Other known UIDs that acknowledged no mute.
+    pub(crate) gone: Vec<DeviceFinding>,
+    pub(crate) stray: Option<Sighting>,
+    pub(crate) garbled: Option<Sighting>,
+    pub(crate) misreads: Misreads,
+    pub(crate) heard: RunUids,
+    pub(crate) acked: RunUids,
+    /// Whether devices are listed by `--present` or the rig.
+    pub(crate) expects: bool,
 }
 
 /// What the exchanges of a run show, a finding a line:
@@ -141,7 +139,7 @@ fn find(
         names: names(alloc, kind, known, exchanges)?,
         devices: judged.devices,
         culprits,
-        gone: gone(alloc, &acked, &due, &suspects, known, exchanges)?,
+        gone: gone(alloc, &acked, &due, known, exchanges)?,
         suspects,
         stray: judged.stray,
         garbled: first_garbled(alloc, exchanges)?,
@@ -175,20 +173,19 @@ fn judge_listed(
     judge(alloc, &uids, many, passing, exchanges)
 }
 
-// The known UIDs that acknowledged no mute, and are in neither list, and what they lack.
+// The known UIDs that acknowledged no mute, and aren't in the list, and what they lack.
 fn gone(
     alloc: Global,
     acked: &RunUids,
     due: &[Uid],
-    suspects: &[Uid],
     known: Option<&[Uid]>,
     exchanges: &[Exchange],
 ) -> Result<Vec<DeviceFinding>, NoMemory>
     ensures all { IfOk result (λ gone. uids_of_findings gone.items
-        ≡ gone_of acked.now due.now suspects.now (option_copied known.entry)) }
+        ≡ gone_of acked.now due.now (option_copied known.entry)) }
     ensures first { IfOk result (λ gone. AreFirstBreaches exchanges.now gone.items) }
 {
-    let Ok(uids) = gone_of(alloc, acked, due, suspects, known) else {
+    let Ok(uids) = gone_of(alloc, acked, due, known) else {
         return Err(NoMemory);
     };
     if uids.is_empty() {
@@ -263,37 +260,13 @@ fn write_run(
         head,
         &found.reported,
         missing_in(head, exchanges, found),
+        stubborn_of(head, exchanges, found),
         exchanges,
         &found.certificate,
         &found.names,
     )?;
     write_run_gaps(text, form, head.start, &found.certificate, &found.names)?;
     write_quiet(text, form, head, exchanges, &found.certificate)
-}
-
-// How many listed devices acknowledged no mute, if the log has all of the run.
-fn missing_in(head: &RunHead, exchanges: &[Exchange], found: &Findings) -> usize
-    ensures { result ≡ missing_in head.now exchanges.now found.now }
-{
-    if shows_all(head, exchanges, found) {
-        missing_of(&found.acked, &found.devices)
-    } else {
-        0
-    }
-}
-
-fn missing_of(acked: &RunUids, devices: &[DeviceFinding]) -> usize
-    ensures { result ≡ missing_of acked.now devices.now }
-{
-    let mut missing = 0;
-    for device in devices {
-        missing = if acked.contains(device.uid) {
-            missing
-        } else {
-            missing + 1
-        };
-    }
-    missing
 }
 
 // Writes the findings about devices and bytes.
@@ -306,11 +279,27 @@ fn write_others(
 ) -> Result<(), AllocError>
     ensures { OnOk result (text.new.items ≡ text.old.items
         ++ (devices_text form (facts_of head.now exchanges.now found.now) exchanges.now found.now
-        ++ bytes_text form head.now exchanges.now found.now ++ run_end form)) }
+        ++ bytes_text form head.now exchanges.now found.now
+        ++ (order_finding form (order_of head.now exchanges.now found.now) ++ run_end form))) }
 {
     let facts = facts_of(head, exchanges, found);
     write_judged(text, form, &facts, exchanges, found)?;
     write_bytes(text, form, head, exchanges, found)?;
+    write_end(text, form, head, exchanges, found)
+}
+
+// Writes what to do, if no other line says it, and what follows the last finding.
+fn write_end(
+    text: &mut Vec<u8>,
+    form: Form,
+    head: &RunHead,
+    exchanges: &[Exchange],
+    found: &Findings,
+) -> Result<(), AllocError>
+    ensures { OnOk result (text.new.items ≡ text.old.items
+        ++ (order_finding form (order_of head.now exchanges.now found.now) ++ run_end form)) }
+{
+    write_order(text, form, head, exchanges, found)?;
     write_run_end(text, form)
 }
 
@@ -369,137 +358,6 @@ fn write_first_garbled(
     write_garbled(text, form, head, cause, exchanges, found.garbled)
 }
 
-// Who is probably to blame for the first bytes that no honest line allows.
-fn cause_of(head: &RunHead, exchanges: &[Exchange], found: &Findings) -> Cause
-    ensures { result ≡ cause_of head.now exchanges.now found.now }
-{
-    let mention = garbled_mention(head.start, head.flaw, exchanges, found.garbled);
-    cause_by(head, exchanges, found, &mention)
-}
-
-fn cause_by(
-    head: &RunHead,
-    exchanges: &[Exchange],
-    found: &Findings,
-    mention: &Option<Mention>,
-) -> Cause
-    ensures { result ≡ cause_by head.now exchanges.now found.now mention.now }
-{
-    match mention {
-        Some(mention) => cause_at(head, exchanges, found, mention.uid),
-        None => Cause::Unclear(false),
-    }
-}
-
-// The same for bytes after this UID was asked.
-fn cause_at(head: &RunHead, exchanges: &[Exchange], found: &Findings, uid: Uid) -> Cause
-    ensures { result ≡ cause_at head.now exchanges.now found.now uid }
-{
-    if is_calm(head, exchanges, found) && found.acked.contains(uid) {
-        Cause::Found
-    } else {
-        unfound_cause(head, exchanges, found, uid)
-    }
-}
-
-// The same, if it acknowledged no mute.
-fn unfound_cause(head: &RunHead, exchanges: &[Exchange], found: &Findings, uid: Uid) -> Cause
-    ensures { result ≡ unfound_cause head.now exchanges.now found.now uid }
-{
-    if is_calm(head, exchanges, found) && is_nobody(found, uid) {
-        calm_cause(found, uid)
-    } else {
-        device_cause(head, exchanges, found, uid)
-    }
-}
-
-// Whether no device should have a UID.
-fn is_nobody(found: &Findings, uid: Uid) -> bool
-    ensures { result ≡ is_nobody found.now uid }
-{
-    !(has(&found.due, uid) || found.heard.contains(uid))
-}
-
-// Noise; but a known device may have the UID, if it wasn't taken away.
-fn calm_cause(found: &Findings, uid: Uid) -> Cause
-    ensures { result ≡ calm_cause found.now uid }
-{
-    if any_about(uid, &found.gone) {
-        Cause::Gone
-    } else {
-        Cause::Noise(found.expects)
-    }
-}
-
-// A device, or noise.
-fn device_cause(head: &RunHead, exchanges: &[Exchange], found: &Findings, uid: Uid) -> Cause
-    ensures { result ≡ device_cause head.now exchanges.now found.now uid }
-{
-    let acked = found.acked.contains(uid);
-    if is_stubborn(found.certificate.failure, exchanges, uid) {
-        return Cause::Device(acked);
-    }
-    let ending = end_of(head, &found.reported, exchanges, &found.certificate);
-    unclear_cause(acked, other_end(exchanges, ending, uid))
-}
-
-// Whether a run found all devices, and one exchange alone has bytes that no honest line allows, which noise may have
-// made, and no other has bytes though no device was due.
-fn is_calm(head: &RunHead, exchanges: &[Exchange], found: &Findings) -> bool
-    ensures { result ≡ is_calm head.now exchanges.now found.now }
-{
-    decides_stray(head, &found.certificate)
-        && missing_in(head, exchanges, found) == 0
-        && is_only(found.garbled)
-        && may_be_noise(head.flaw)
-        && stray_of(found).is_none()
-}
-
-// Whether there is one such exchange alone.
-fn is_only(sighting: Option<Sighting>) -> bool
-    ensures { result ≡ is_only sighting }
-{
-    match sighting {
-        Some(first) => first.more == 0,
-        None => false,
-    }
-}
-
-fn any_about(uid: Uid, devices: &[DeviceFinding]) -> bool
-    ensures { result ≡ any_about uid devices.now }
-{
-    for device in devices {
-        if device.uid == uid {
-            return true;
-        }
-    }
-    false
-}
-
-// The first stray exchange that has a finding of its own.
-fn stray_of(found: &Findings) -> Option<Sighting>
-    ensures { result ≡ stray_of found.now }
-{
-    unless_garbled(found.garbled, found.stray)
-}
-
-// The first stray exchange, unless another finding is about the same one.
-fn unless_garbled(garbled: Option<Sighting>, stray: Option<Sighting>) -> Option<Sighting>
-    ensures { result ≡ unless_garbled garbled stray }
-{
-    match (garbled, stray) {
-        (None, stray) => stray,
-        (Some(_), None) => None,
-        (Some(garbled), Some(first)) => {
-            if first.at == garbled.at {
-                None
-            } else {
-                Some(first)
-            }
-        }
-    }
-}
-
 // What is said of devices beside their findings.
 fn facts_of(head: &RunHead, exchanges: &[Exchange], found: &Findings) -> RunFacts
     ensures { result ≡ facts_of head.now exchanges.now found.now }
@@ -547,16 +405,16 @@ fn write_unlisted(
     ensures { OnOk result (text.new.items ≡ text.old.items
         ++ others_text form facts.now exchanges.now found.now) }
 {
-    write_culprits(text, form, exchanges, &found.culprits)?;
-    write_suspects(text, form, facts, &found.misreads, &found.suspects)?;
+    write_culprits(text, form, facts, exchanges, &found.culprits)?;
+    write_suspects(
+        text,
+        form,
+        facts,
+        &found.misreads,
+        exchanges,
+        &found.suspects,
+    )?;
     write_gone(text, form, facts, &found.gone)
-}
-
-// Whether the log has all of the run.
-fn shows_all(head: &RunHead, exchanges: &[Exchange], found: &Findings) -> bool
-    ensures { result ≡ shows_all head.now exchanges.now found.now }
-{
-    is_whole(head, &found.reported, exchanges, &found.certificate)
 }
 
 // Whether any finding is that a rule was broken.

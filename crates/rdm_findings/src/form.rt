@@ -54,6 +54,8 @@ pub(crate) enum Judgement {
     Garbled,
     /// Bytes came after an unmute.
     Answered,
+    /// What to do.
+    Order,
     /// A device isn't judged: it comes or leaves.
     Passing,
     /// A device isn't judged: the log has no run.
@@ -227,6 +229,7 @@ fn judgement_name(judgement: Judgement) -> &'static str
         Judgement::Unexplained => "unexplained",
         Judgement::Garbled => "garbled",
         Judgement::Answered => "answered",
+        Judgement::Order => "order",
         Judgement::Passing => "passing",
         Judgement::Unjudged => "unjudged",
     }

@@ -1,7 +1,8 @@
 //! The parts of a certificate that fail.
-ghost use Rattle.std.specs.Prelude.{◌≡◌, ◌++◌, OnOk, Some};
+ghost use Rattle.std.specs.Prelude.{◌≡◌, ◌++◌, OnOk, Some, codes};
 ghost use Rattle.rdm_wire.specs.UidText.{uid_text};
-ghost use Rattle.rdm_findings.specs.FindingText.{is_greatest, uncovered_before, uncovered_after, uncovered_gap};
+ghost use Rattle.rdm_findings.specs.OpenRanges.{is_greatest, alone_before, alone_after, range_after};
+ghost use Rattle.rdm_findings.specs.OpenRanges.{open_text, open_gap, uncovered_gap};
 ghost use Rattle.rdm_findings.specs.FindingText.{device_gap, start_gaps, end_gaps, gaps_text};
 ghost use Rattle.std.specs.List.{list_all};
 ghost use Rattle.rdm_findings.specs.FindingText.{quiet_text, hears_nothing};
@@ -11,8 +12,8 @@ use crate::ending::decides_stray;
 use crate::form::{About, Form, Judgement, begin, end};
 use crate::head::{RunHead, Start};
 use crate::writing::{
-    write, write_exchange_finding, write_exchange_gap, write_finding, write_uid, write_uid_finding,
-    write_uid_gap,
+    write, write_around, write_exchange_finding, write_exchange_gap, write_finding, write_uid,
+    write_uid_finding, write_uid_gap,
 };
 use rdm_explain::{Exchange, KnownFinding, RunFinding};
 use rdm_wire::{Device, Uid};
@@ -58,8 +59,8 @@ pub(crate) fn write_quiet(
     }
 }
 
-// Whether no byte came in any exchange.
-fn hear_nothing(exchanges: &[Exchange]) -> bool
+/// Whether no byte came in any exchange.
+pub(crate) fn hear_nothing(exchanges: &[Exchange]) -> bool
     ensures { result ≡ list_all hears_nothing exchanges.now }
 {
     for exchange in exchanges {
@@ -70,7 +71,7 @@ fn hear_nothing(exchanges: &[Exchange]) -> bool
     true
 }
 
-const FAILED: &str = " failed: check the adapter and the cable";
+const FAILED: &str = " failed";
 
 fn write_failure(
     text: &mut Vec<u8>,
@@ -121,7 +122,7 @@ fn write_end_gaps(text: &mut Vec<u8>, form: Form, found: &RunFinding) -> Result<
     ensures { OnOk result (text.new.items ≡ text.old.items ++ end_gaps form found.now) }
 {
     write_exchange_gap(text, form, Judgement::Gap, found.untried, UNTRIED)?;
-    write_uncovered(text, form, found.uncovered)?;
+    write_uncovered(text, form, found.uncovered, found.uncovered_to)?;
     write_device_gap(
         text,
         form,
@@ -130,54 +131,94 @@ fn write_end_gaps(text: &mut Vec<u8>, form: Form, found: &RunFinding) -> Result<
     )
 }
 
-// About the first UID that wasn't ruled out.
-fn write_uncovered(text: &mut Vec<u8>, form: Form, first: Option<Uid>) -> Result<(), AllocError>
-    ensures { OnOk result (text.new.items ≡ text.old.items ++ uncovered_gap form first) }
+// About the first range that wasn't ruled out.
+fn write_uncovered(
+    text: &mut Vec<u8>,
+    form: Form,
+    first: Option<Uid>,
+    last: Option<Uid>,
+) -> Result<(), AllocError>
+    ensures { OnOk result (text.new.items ≡ text.old.items ++ uncovered_gap form first last) }
 {
     match first {
-        Some(uid) => write_unsettled(text, form, uid),
+        Some(first) => write_open_gap(text, form, first, last),
         None => Ok(()),
     }
 }
 
-fn write_unsettled(text: &mut Vec<u8>, form: Form, uid: Uid) -> Result<(), AllocError>
-    ensures { OnOk result (text.new.items ≡ text.old.items ++ uncovered_gap form (Some uid)) }
+fn write_open_gap(
+    text: &mut Vec<u8>,
+    form: Form,
+    first: Uid,
+    last: Option<Uid>,
+) -> Result<(), AllocError>
+    ensures { OnOk result (text.new.items ≡ text.old.items ++ open_gap form first last) }
 {
-    begin(text, form, &About::uid(Judgement::Gap, uid))?;
-    write_around(text, uid)?;
+    match last {
+        Some(last) => write_unsettled(text, form, first, last),
+        None => Ok(()),
+    }
+}
+
+fn write_unsettled(text: &mut Vec<u8>, form: Form, first: Uid, last: Uid) -> Result<(), AllocError>
+    ensures { OnOk result (text.new.items ≡ text.old.items ++ open_gap form first (Some last)) }
+{
+    begin(text, form, &About::uid(Judgement::Gap, first))?;
+    write_open(text, first, last)?;
     end(text, form)
 }
 
-fn write_around(text: &mut Vec<u8>, uid: Uid) -> Result<(), AllocError>
-    ensures { OnOk result (text.new.items ≡ text.old.items
-        ++ (uncovered_before uid ++ uid_text uid ++ uncovered_after uid)) }
+fn write_open(text: &mut Vec<u8>, first: Uid, last: Uid) -> Result<(), AllocError>
+    ensures { OnOk result (text.new.items ≡ text.old.items ++ open_text first last) }
 {
-    write(text, uncovered_before(uid))?;
-    write_uid(text, uid)?;
-    write(text, uncovered_after(uid))
+    if first == last {
+        write_around(text, alone_before(first), first, alone_after(first))
+    } else {
+        write_range(text, first, last)
+    }
 }
 
-fn uncovered_before(uid: Uid) -> &'static str
-    ensures { result.now ≡ uncovered_before uid }
+fn write_range(text: &mut Vec<u8>, first: Uid, last: Uid) -> Result<(), AllocError>
+    ensures { OnOk result (text.new.items ≡ text.old.items ++ (codes "not settled: a device from " ++ uid_text first
+        ++ (codes " to " ++ uid_text last ++ range_after last))) }
+{
+    write(text, "not settled: a device from ")?;
+    write_uid(text, first)?;
+    write_around(text, " to ", last, range_after(last))
+}
+
+// What comes after the last UID of a range: those above it may be open too.
+fn range_after(last: Uid) -> &'static str
+    ensures { result.now ≡ range_after last }
+{
+    if is_greatest(last) {
+        " may be missing"
+    } else {
+        " may be missing, perhaps others above it too"
+    }
+}
+
+fn alone_before(uid: Uid) -> &'static str
+    ensures { result.now ≡ alone_before uid }
 {
     if is_greatest(uid) {
         ""
     } else if uid.is_broadcast() {
         "not settled: "
     } else {
-        "not settled: a device from "
+        "not settled: a device with "
     }
 }
 
-fn uncovered_after(uid: Uid) -> &'static str
-    ensures { result.now ≡ uncovered_after uid }
+fn alone_after(uid: Uid) -> &'static str
+    ensures { result.now ≡ alone_after uid }
 {
     if is_greatest(uid) {
         " alone wasn't ruled out, and no device may have it"
     } else if uid.is_broadcast() {
         " wasn't ruled out, and perhaps UIDs above it; no device may have this one"
     } else {
-        " up may be missing"
+        " may be missing, perhaps others above it too"
     }
 }
 

@@ -1,10 +1,11 @@
 //! What is printed about bytes that no honest line allows, whichever devices are on it.
 ghost use Rattle.std.specs.Prelude.{◌≡◌, ◌++◌, OnOk, codes, true};
 ghost use Rattle.rdm_wire.specs.UidText.{uid_text};
-ghost use Rattle.rdm_findings.specs.FindingText.{sighting_name, cause_text, reply_text, garbled_text};
+ghost use Rattle.rdm_findings.specs.FindingText.{sighting_name, blame_text, cause_text, guilt_after, reply_text};
+ghost use Rattle.rdm_findings.specs.FindingText.{garbled_text};
 ghost use Rattle.rdm_findings.specs.FindingText.{nobody_before, nobody_after, nobody_text, after_take, off_text};
-ghost use Rattle.rdm_findings.specs.FindingText.{who_text, first_off, turns_text};
-ghost use Rattle.rdm_findings.specs.FindingText.{same_why, off_advice, same_text, own_text, other_bytes};
+ghost use Rattle.rdm_findings.specs.FindingText.{who_text, end_off, first_off, stubborn_off, turns_text};
+ghost use Rattle.rdm_findings.specs.FindingText.{same_why, off_advice, same_advice, same_text, own_text, other_bytes};
 ghost use Rattle.rdm_findings.specs.FindingText.{both_text, then_text, why_text, unacked_text, wrong_text};
 ghost use Rattle.rdm_findings.specs.FindingText.{garbled_found, garbled_finding, asked_uid, of_garbled};
 ghost use Rattle.rdm_findings.specs.Forms.{finding};
@@ -132,16 +133,26 @@ fn write_own(
     ensures { OnOk result (text.new.items ≡ text.old.items ++ own_text cause flaw uid heard.now) }
 {
     match heard {
-        Heard::One(read) if *read == uid => write_same(text, uid),
+        Heard::One(read) if *read == uid => write_same(text, &cause, uid),
         _ => write_other_bytes(text, cause, flaw, uid, heard),
     }
 }
 
-fn write_same(text: &mut Vec<u8>, uid: Uid) -> Result<(), AllocError>
-    ensures { OnOk result (text.new.items ≡ text.old.items ++ same_text uid) }
+fn write_same(text: &mut Vec<u8>, cause: &Cause, uid: Uid) -> Result<(), AllocError>
+    ensures { OnOk result (text.new.items ≡ text.old.items ++ same_text cause.now uid) }
 {
     write(text, same_why(uid))?;
-    write(text, off_advice(uid))
+    write(text, same_advice(cause, uid))
+}
+
+// What to do about a UID, unless an exchange failed.
+fn same_advice(cause: &Cause, uid: Uid) -> &'static str
+    ensures { result.now ≡ same_advice cause.now uid }
+{
+    match cause {
+        Cause::Failed(_) => "",
+        _ => off_advice(uid),
+    }
 }
 
 // Why it shouldn't answer: no device has such a UID, or it is muted.
@@ -149,9 +160,9 @@ fn same_why(uid: Uid) -> &'static str
     ensures { result.now ≡ same_why uid }
 {
     if uid.is_broadcast() {
-        " alone was asked and answered, though no device may have it; a rule was broken: "
+        " alone was asked and answered, though no device may have it; a rule was broken"
     } else {
-        " alone was asked and answered, though it was muted: it restarted or broke a rule, or another has its UID; "
+        " alone was asked and answered, though it was muted: it restarted or broke a rule, or another has its UID"
     }
 }
 
@@ -160,9 +171,9 @@ fn off_advice(uid: Uid) -> &'static str
     ensures { result.now ≡ off_advice uid }
 {
     if uid.is_broadcast() {
-        "split the line and discover each half"
+        ": split the line and discover each half"
     } else {
-        "take it off the line and discover again"
+        "; take it off the line and discover again"
     }
 }
 
@@ -259,13 +270,16 @@ fn write_cause(text: &mut Vec<u8>, cause: Cause, uid: Uid) -> Result<(), AllocEr
         Cause::Found => write_around(text, "; a rule was broken, probably by noise: ", uid, FOUND),
         Cause::Gone => write_around(
             text,
-            "; a rule was broken, probably by noise if you took ",
+            "; a rule was broken, perhaps by noise if you took ",
             uid,
-            " away; if it is still there, check its power and its cable",
+            " away; if it is still there, check its power and its cable, and discover again",
         ),
         Cause::Device(found) => write_device(text, found, uid),
         Cause::Unclear(found) => write_unclear(text, found, uid),
         Cause::Other(end) => write_other(text, end, uid),
+        Cause::Ended(end) => write_ended(text, end),
+        Cause::Stubborn(other) => write_stubborn(text, other),
+        Cause::Failed(stubborn) => write(text, guilt_after(stubborn)),
     }
 }
 
@@ -345,16 +359,67 @@ fn write_other(text: &mut Vec<u8>, end: Uid, uid: Uid) -> Result<(), AllocError>
     write_first_off(text, end, uid)
 }
 
-// What to do first, if the run ended at a UID, and then about another one.
-fn write_first_off(text: &mut Vec<u8>, end: Uid, uid: Uid) -> Result<(), AllocError>
-    ensures { OnOk result (text.new.items ≡ text.old.items ++ first_off end uid) }
+fn write_ended(text: &mut Vec<u8>, end: Uid) -> Result<(), AllocError>
+    ensures { OnOk result (text.new.items ≡ text.old.items
+        ++ (codes "; a rule was broken, by a device or noise: " ++ end_off end)) }
+{
+    write(text, "; a rule was broken, by a device or noise: ")?;
+    write_end_off(text, end)
+}
+
+// Whether a device or noise broke a rule, if nothing is said of what to do.
+fn guilt_after(stubborn: bool) -> &'static str
+    ensures { result.now ≡ guilt_after stubborn }
+{
+    if stubborn {
+        "; a rule was broken, by a device rather than noise"
+    } else {
+        "; a rule was broken, by a device or noise"
+    }
+}
+
+fn write_stubborn(text: &mut Vec<u8>, uid: Uid) -> Result<(), AllocError>
+    ensures { OnOk result (text.new.items ≡ text.old.items
+        ++ (codes "; a rule was broken, by a device or noise: " ++ stubborn_off uid)) }
+{
+    write(text, "; a rule was broken, by a device or noise: ")?;
+    write_stubborn_off(text, uid)
+}
+
+// What to do if another UID had many bad answers.
+fn write_stubborn_off(text: &mut Vec<u8>, uid: Uid) -> Result<(), AllocError>
+    ensures { OnOk result (text.new.items ≡ text.old.items ++ stubborn_off uid) }
+{
+    if uid.is_broadcast() {
+        write(text, "split the line and discover each half")
+    } else {
+        write_around(
+            text,
+            "take ",
+            uid,
+            ", which had many wrong answers, off the line and discover again",
+        )
+    }
+}
+
+// What to do, if the run ended at a UID.
+fn write_end_off(text: &mut Vec<u8>, end: Uid) -> Result<(), AllocError>
+    ensures { OnOk result (text.new.items ≡ text.old.items ++ end_off end) }
 {
     write_around(
         text,
-        "first take ",
+        "take ",
         end,
         ", at which the run ended, off the line and discover again",
-    )?;
+    )
+}
+
+// The same, and then what to do about another one.
+fn write_first_off(text: &mut Vec<u8>, end: Uid, uid: Uid) -> Result<(), AllocError>
+    ensures { OnOk result (text.new.items ≡ text.old.items ++ first_off end uid) }
+{
+    write(text, "first ")?;
+    write_end_off(text, end)?;
     write_then(text, uid)
 }
 
@@ -405,6 +470,16 @@ fn write_both(text: &mut Vec<u8>, cause: Cause, uid: Uid, read: Uid) -> Result<(
 }
 
 fn write_blame(text: &mut Vec<u8>, cause: &Cause, uid: Uid, read: Uid) -> Result<(), AllocError>
+    ensures { OnOk result (text.new.items ≡ text.old.items ++ blame_text cause.now uid read) }
+{
+    match cause {
+        Cause::Failed(stubborn) => write(text, guilt_after(*stubborn)),
+        _ => write_who(text, cause, uid, read),
+    }
+}
+
+// Whether a device or noise broke a rule, and what to do.
+fn write_who(text: &mut Vec<u8>, cause: &Cause, uid: Uid, read: Uid) -> Result<(), AllocError>
     ensures { OnOk result (text.new.items ≡ text.old.items ++ (who_text cause.now ++ turns_text cause.now uid read)) }
 {
     write(text, who_text(cause))?;
@@ -426,6 +501,9 @@ fn write_turns(text: &mut Vec<u8>, cause: &Cause, uid: Uid, read: Uid) -> Result
 {
     match cause {
         Cause::Other(end) => write_first_off(text, *end, uid),
+        Cause::Ended(end) => write_end_off(text, *end),
+        Cause::Stubborn(other) => write_stubborn_off(text, *other),
+        Cause::Gone => write_off(text, true, read),
         _ => write_in_turn(text, uid, read),
     }
 }

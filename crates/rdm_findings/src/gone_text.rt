@@ -2,12 +2,13 @@
 //! were answered wrongly when they were asked alone.
 ghost use Rattle.std.specs.Prelude.{◌≡◌, ◌++◌, OnOk, Some, codes, decimal, flat_map};
 ghost use Rattle.rdm_wire.specs.UidText.{uid_text};
-ghost use Rattle.rdm_findings.specs.DeviceText.{culprit_advice, culprit_text, culprit_found, culprit_finding};
+ghost use Rattle.rdm_findings.specs.DeviceText.{culprit_why, culprit_text, culprit_found, culprit_finding, guilt_text};
 ghost use Rattle.rdm_findings.specs.DeviceText.{gone_before, gone_after, gone_finding, of_gone};
-ghost use Rattle.rdm_findings.specs.DeviceText.{suspect_advice, suspect_text, suspect_found, suspect_finding};
+ghost use Rattle.rdm_findings.specs.DeviceText.{suspect_text, suspect_found, suspect_finding};
 ghost use Rattle.rdm_findings.specs.Forms.{finding};
 ghost use Rattle.rdm_findings.specs.Starts.{number_at};
 
+use crate::cause::is_stubborn;
 use crate::ending::has_garbled_mute;
 use crate::form::{About, Form, Judgement, begin, end};
 use crate::head::Start;
@@ -22,48 +23,81 @@ use std::alloc::AllocError;
 pub(crate) fn write_culprits(
     text: &mut Vec<u8>,
     form: Form,
+    facts: &RunFacts,
     exchanges: &[Exchange],
     culprits: &[Uid],
 ) -> Result<(), AllocError>
     ensures { OnOk result (text.new.items ≡ text.old.items
-        ++ flat_map (culprit_finding form exchanges.now) culprits.now) }
+        ++ flat_map (culprit_finding form facts.now exchanges.now) culprits.now) }
 {
     'culprits: for uid in culprits {
-        write_culprit(text, form, *uid, has_garbled_mute(*uid, exchanges))?;
+        write_one_culprit(text, form, facts, exchanges, *uid)?;
     }
     Ok(())
 }
 
-fn write_culprit(text: &mut Vec<u8>, form: Form, uid: Uid, garbled: bool) -> Result<(), AllocError>
-    ensures { OnOk result (text.new.items ≡ text.old.items ++ culprit_found form uid garbled) }
+fn write_one_culprit(
+    text: &mut Vec<u8>,
+    form: Form,
+    facts: &RunFacts,
+    exchanges: &[Exchange],
+    uid: Uid,
+) -> Result<(), AllocError>
+    ensures { OnOk result (text.new.items ≡ text.old.items
+        ++ culprit_finding form facts.now exchanges.now uid) }
+{
+    let garbled = has_garbled_mute(uid, exchanges);
+    let stubborn = is_stubborn(facts.failure, exchanges, uid);
+    write_culprit(text, form, uid, garbled, stubborn)
+}
+
+fn write_culprit(
+    text: &mut Vec<u8>,
+    form: Form,
+    uid: Uid,
+    garbled: bool,
+    stubborn: bool,
+) -> Result<(), AllocError>
+    ensures { OnOk result (text.new.items ≡ text.old.items ++ culprit_found form uid garbled stubborn) }
 {
     begin(text, form, &About::uid(Judgement::Unmuted, uid))?;
     write_uid(text, uid)?;
-    write_ignoring(text, garbled)?;
+    write_ignoring(text, garbled, stubborn)?;
     end(text, form)
 }
 
 // That it acknowledged no mute, and why.
-fn write_ignoring(text: &mut Vec<u8>, garbled: bool) -> Result<(), AllocError>
-    ensures { OnOk result (text.new.items ≡ text.old.items ++ culprit_text garbled) }
+fn write_ignoring(text: &mut Vec<u8>, garbled: bool, stubborn: bool) -> Result<(), AllocError>
+    ensures { OnOk result (text.new.items ≡ text.old.items ++ culprit_text garbled stubborn) }
 {
     write(text, " answered alone and then acknowledged no mute: ")?;
-    write_advice(text, garbled)
+    write_culprit_why(text, garbled, stubborn)
 }
 
-fn write_advice(text: &mut Vec<u8>, garbled: bool) -> Result<(), AllocError>
-    ensures { OnOk result (text.new.items ≡ text.old.items ++ culprit_advice garbled) }
+fn write_culprit_why(text: &mut Vec<u8>, garbled: bool, stubborn: bool) -> Result<(), AllocError>
+    ensures { OnOk result (text.new.items ≡ text.old.items ++ culprit_why garbled stubborn) }
 {
-    write(text, culprit_advice(garbled))
+    write(text, culprit_why(garbled, stubborn))
 }
 
-fn culprit_advice(garbled: bool) -> &'static str
-    ensures { result.now ≡ culprit_advice garbled }
+fn culprit_why(garbled: bool, stubborn: bool) -> &'static str
+    ensures { result.now ≡ culprit_why garbled stubborn }
 {
     if garbled {
-        "a rule was broken, by it, another device or noise"
+        guilt_text(stubborn)
     } else {
-        "it left, or broke a rule; take it off the line and discover again"
+        "it left, or broke a rule"
+    }
+}
+
+// Who broke a rule by bad answers. The flag says that there were many.
+fn guilt_text(stubborn: bool) -> &'static str
+    ensures { result.now ≡ guilt_text stubborn }
+{
+    if stubborn {
+        "a rule was broken, by a device rather than noise"
+    } else {
+        "a rule was broken, by a device or noise"
     }
 }
 
@@ -73,33 +107,56 @@ pub(crate) fn write_suspects(
     form: Form,
     facts: &RunFacts,
     misreads: &Misreads,
+    exchanges: &[Exchange],
     suspects: &[Uid],
 ) -> Result<(), AllocError>
     ensures { OnOk result (text.new.items ≡ text.old.items
-        ++ flat_map (suspect_finding form facts.now misreads.now) suspects.now) }
+        ++ flat_map (suspect_finding form facts.now misreads.now exchanges.now) suspects.now) }
 {
     'suspects: for uid in suspects {
-        write_suspect(text, form, *uid, facts.suspect_at(misreads, *uid))?;
+        write_one_suspect(text, form, facts, misreads, exchanges, *uid)?;
     }
     Ok(())
+}
+
+fn write_one_suspect(
+    text: &mut Vec<u8>,
+    form: Form,
+    facts: &RunFacts,
+    misreads: &Misreads,
+    exchanges: &[Exchange],
+    uid: Uid,
+) -> Result<(), AllocError>
+    ensures { OnOk result (text.new.items ≡ text.old.items
+        ++ suspect_finding form facts.now misreads.now exchanges.now uid) }
+{
+    let stubborn = is_stubborn(facts.failure, exchanges, uid);
+    write_suspect(text, form, uid, stubborn, facts.suspect_at(misreads, uid))
 }
 
 fn write_suspect(
     text: &mut Vec<u8>,
     form: Form,
     uid: Uid,
+    stubborn: bool,
     at: Option<u64>,
 ) -> Result<(), AllocError>
-    ensures { OnOk result (text.new.items ≡ text.old.items ++ suspect_found form uid at) }
+    ensures { OnOk result (text.new.items ≡ text.old.items ++ suspect_found form uid stubborn at) }
 {
     match at {
-        Some(number) => write_suspected(text, form, uid, number),
+        Some(number) => write_suspected(text, form, uid, stubborn, number),
         None => Ok(()),
     }
 }
 
-fn write_suspected(text: &mut Vec<u8>, form: Form, uid: Uid, number: u64) -> Result<(), AllocError>
-    ensures { OnOk result (text.new.items ≡ text.old.items ++ suspect_found form uid (Some number)) }
+fn write_suspected(
+    text: &mut Vec<u8>,
+    form: Form,
+    uid: Uid,
+    stubborn: bool,
+    number: u64,
+) -> Result<(), AllocError>
+    ensures { OnOk result (text.new.items ≡ text.old.items ++ suspect_found form uid stubborn (Some number)) }
 {
     let about = About {
         judgement: Judgement::Garbled,
@@ -108,29 +165,19 @@ fn write_suspected(text: &mut Vec<u8>, form: Form, uid: Uid, number: u64) -> Res
     };
     begin(text, form, &about)?;
     write_uid(text, uid)?;
-    write_wrong(text, uid, number)?;
+    write_wrong(text, stubborn, number)?;
     end(text, form)
 }
 
-fn write_wrong(text: &mut Vec<u8>, uid: Uid, number: u64) -> Result<(), AllocError>
-    ensures { OnOk result (text.new.items ≡ text.old.items ++ suspect_text uid number) }
+fn write_wrong(text: &mut Vec<u8>, stubborn: bool, number: u64) -> Result<(), AllocError>
+    ensures { OnOk result (text.new.items ≡ text.old.items ++ suspect_text stubborn number) }
 {
     write(
         text,
-        " alone was asked, and bytes came that are no right answer: ",
+        " alone was asked, and bytes came that are no right answer; ",
     )?;
-    write(text, suspect_advice(uid))?;
+    write(text, guilt_text(stubborn))?;
     write_place(text, number)
-}
-
-fn suspect_advice(uid: Uid) -> &'static str
-    ensures { result.now ≡ suspect_advice uid }
-{
-    if uid.is_broadcast() {
-        "split the line and discover each half"
-    } else {
-        "take it off the line and discover again; if your rig has no such device, split the line"
-    }
 }
 
 fn write_place(text: &mut Vec<u8>, number: u64) -> Result<(), AllocError>

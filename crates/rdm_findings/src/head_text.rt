@@ -3,14 +3,17 @@ ghost use Rattle.std.specs.Prelude.{◌≡◌, ◌++◌, OnOk, codes, decimal};
 ghost use Rattle.rdm_wire.specs.UidText.{uid_text};
 ghost use Rattle.rdm_findings.specs.FindingText.{name_text, kind_text, search_text, what_text, end_text, outcome_text};
 ghost use Rattle.rdm_findings.specs.FindingText.{sound_text, gap_text, begun_text, certificate_text, decides_gaps};
-ghost use Rattle.rdm_findings.specs.Ends.{end_of};
+ghost use Rattle.rdm_findings.specs.FindingText.{may_be_old};
+ghost use Rattle.rdm_findings.specs.Ends.{end_of, is_quick};
 ghost use Rattle.rdm_findings.specs.FindingText.{head_text, head_finding, head_sentence, reason_text, spent_text};
 ghost use Rattle.rdm_findings.specs.FindingText.{count_text, missing_text, devices_count, early_text};
-ghost use Rattle.rdm_findings.specs.FindingText.{corrupt_text, is_this};
+ghost use Rattle.rdm_findings.specs.FindingText.{corrupt_text, is_this, wrongs_text};
 ghost use Rattle.rdm_findings.specs.FindingText.{sound_judgement, begun_judgement, run_judgement};
 ghost use Rattle.rdm_findings.specs.Forms.{after_sentence};
 
-use crate::ending::{end_of, is_complete, is_known_complete, is_lost, is_over, never_muted};
+use crate::ending::{
+    corrupt_uid, end_of, is_complete, is_known_complete, is_lost, is_over, never_muted,
+};
 use crate::form::{About, Form, Judgement, end};
 use crate::head::{RunHead, Start};
 use crate::run_json::write_run_start;
@@ -27,18 +30,28 @@ pub(crate) fn write_head(
     head: &RunHead,
     reported: &DeviceSet,
     missing: usize,
+    stubborn: Option<Uid>,
     exchanges: &[Exchange],
     certificate: &RunFinding,
     names: &Option<KnownFinding>,
 ) -> Result<(), AllocError>
     ensures { OnOk result (text.new.items ≡ text.old.items
-        ++ head_finding form head.now reported.now missing exchanges.now certificate.now names.now) }
+        ++ head_finding form head.now reported.now missing stubborn exchanges.now certificate.now names.now) }
 {
     let ending = end_of(head, reported, exchanges, certificate);
     let decided = decides_gaps(head, reported, exchanges, certificate, names);
     let about = About::run(run_judgement(head, decided, certificate, names));
     write_run_start(text, form, head, ending, reported.len(), exchanges, &about)?;
-    write_sentence(text, head, reported, missing, exchanges, certificate, names)?;
+    write_sentence(
+        text,
+        head,
+        reported,
+        missing,
+        stubborn,
+        exchanges,
+        certificate,
+        names,
+    )?;
     end(text, form)
 }
 
@@ -47,12 +60,13 @@ fn write_sentence(
     head: &RunHead,
     reported: &DeviceSet,
     missing: usize,
+    stubborn: Option<Uid>,
     exchanges: &[Exchange],
     certificate: &RunFinding,
     names: &Option<KnownFinding>,
 ) -> Result<(), AllocError>
     ensures { OnOk result (text.new.items ≡ text.old.items
-        ++ head_sentence head.now reported.now missing exchanges.now certificate.now names.now) }
+        ++ head_sentence head.now reported.now missing stubborn exchanges.now certificate.now names.now) }
 {
     let ending = end_of(head, reported, exchanges, certificate);
     let decided = decides_gaps(head, reported, exchanges, certificate, names);
@@ -60,12 +74,34 @@ fn write_sentence(
         text,
         head,
         never_muted(reported, exchanges),
+        stubborn,
         ending,
         exchanges.len(),
         reported.len(),
         missing,
     )?;
-    write(text, certificate_text(head, decided, certificate, names))
+    let old = may_be_old(head, reported, exchanges);
+    write(
+        text,
+        certificate_text(head, decided, old, certificate, names),
+    )
+}
+
+// Whether a quick run of an older version ended here.
+fn may_be_old(head: &RunHead, reported: &DeviceSet, exchanges: &[Exchange]) -> bool
+    ensures { result ≡ may_be_old head.now reported.now exchanges.now }
+{
+    is_quick(head.search) && corrupt_uid(reported, exchanges).is_some()
+}
+
+fn is_quick(search: Option<Search>) -> bool
+    ensures { result ≡ is_quick search }
+{
+    match search {
+        Some(Search::Quick) => true,
+        Some(Search::Steady) => false,
+        None => false,
+    }
 }
 
 // Whether the certificate is complete, if that can be decided.
@@ -134,17 +170,26 @@ fn write_run(
     text: &mut Vec<u8>,
     head: &RunHead,
     unmuted: Option<Uid>,
+    stubborn: Option<Uid>,
     ending: Option<Option<AgentFault>>,
     exchanges: usize,
     reported: usize,
     missing: usize,
 ) -> Result<(), AllocError>
     ensures { OnOk result (text.new.items ≡ text.old.items
-        ++ head_text head.now unmuted ending exchanges reported missing) }
+        ++ head_text head.now unmuted stubborn ending exchanges reported missing) }
 {
     write_what(text, head)?;
     write_count(text, exchanges as u64, " exchange")?;
-    write_outcome(text, head.budget, unmuted, ending, reported, missing)
+    write_outcome(
+        text,
+        head.budget,
+        unmuted,
+        stubborn,
+        ending,
+        reported,
+        missing,
+    )
 }
 
 // The run's name, its kind, and how it searched.
@@ -201,13 +246,15 @@ fn write_outcome(
     text: &mut Vec<u8>,
     budget: Option<u64>,
     unmuted: Option<Uid>,
+    stubborn: Option<Uid>,
     ending: Option<Option<AgentFault>>,
     reported: usize,
     missing: usize,
 ) -> Result<(), AllocError>
-    ensures { OnOk result (text.new.items ≡ text.old.items ++ outcome_text budget unmuted ending reported missing) }
+    ensures { OnOk result (text.new.items ≡ text.old.items
+        ++ outcome_text budget unmuted stubborn ending reported missing) }
 {
-    write_ending(text, budget, unmuted, ending)?;
+    write_ending(text, budget, unmuted, stubborn, ending)?;
     write(text, ", ")?;
     write_devices_count(text, reported, missing)
 }
@@ -249,14 +296,15 @@ fn write_ending(
     text: &mut Vec<u8>,
     budget: Option<u64>,
     unmuted: Option<Uid>,
+    stubborn: Option<Uid>,
     ending: Option<Option<AgentFault>>,
 ) -> Result<(), AllocError>
-    ensures { OnOk result (text.new.items ≡ text.old.items ++ end_text budget unmuted ending) }
+    ensures { OnOk result (text.new.items ≡ text.old.items ++ end_text budget unmuted stubborn ending) }
 {
     match ending {
         None => Ok(()),
         Some(None) => write(text, ", no fault"),
-        Some(Some(fault)) => write_explained(text, budget, unmuted, &fault),
+        Some(Some(fault)) => write_explained(text, budget, unmuted, stubborn, &fault),
     }
 }
 
@@ -265,28 +313,30 @@ fn write_explained(
     text: &mut Vec<u8>,
     budget: Option<u64>,
     unmuted: Option<Uid>,
+    stubborn: Option<Uid>,
     fault: &AgentFault,
 ) -> Result<(), AllocError>
     ensures { OnOk result (text.new.items ≡ text.old.items
-        ++ (codes ", " ++ early_text fault.now ++ reason_text budget unmuted fault.now)) }
+        ++ (codes ", " ++ early_text fault.now ++ reason_text budget unmuted stubborn fault.now)) }
 {
     write(text, ", ")?;
     write_early(text, fault)?;
-    write_reason(text, budget, unmuted, fault)
+    write_reason(text, budget, unmuted, stubborn, fault)
 }
 
 fn write_reason(
     text: &mut Vec<u8>,
     budget: Option<u64>,
     unmuted: Option<Uid>,
+    stubborn: Option<Uid>,
     fault: &AgentFault,
 ) -> Result<(), AllocError>
-    ensures { OnOk result (text.new.items ≡ text.old.items ++ reason_text budget unmuted fault.now) }
+    ensures { OnOk result (text.new.items ≡ text.old.items ++ reason_text budget unmuted stubborn fault.now) }
 {
     match fault {
         AgentFault::Corrupt(uid) => write(text, corrupt_text(is_this(unmuted, *uid))),
         AgentFault::TooMany => write(text, " (more than 1,024 devices answered)"),
-        AgentFault::Exhausted => write_spent(text, budget),
+        AgentFault::Exhausted => write_exhausted(text, budget, stubborn),
         AgentFault::LineFailed => write(text, " (the line failed)"),
         AgentFault::Aborted => write(text, " (it was aborted)"),
     }
@@ -310,6 +360,35 @@ fn is_this(one: Option<Uid>, uid: Uid) -> bool
         Some(one) => one == uid,
         None => false,
     }
+}
+
+// That its budget is used up, and after whose wrong answers, if a UID had many.
+fn write_exhausted(
+    text: &mut Vec<u8>,
+    budget: Option<u64>,
+    stubborn: Option<Uid>,
+) -> Result<(), AllocError>
+    ensures { OnOk result (text.new.items ≡ text.old.items ++ (spent_text budget ++ wrongs_text stubborn)) }
+{
+    write_spent(text, budget)?;
+    write_wrongs(text, stubborn)
+}
+
+fn write_wrongs(text: &mut Vec<u8>, stubborn: Option<Uid>) -> Result<(), AllocError>
+    ensures { OnOk result (text.new.items ≡ text.old.items ++ wrongs_text stubborn) }
+{
+    match stubborn {
+        Some(uid) => write_wrong(text, uid),
+        None => Ok(()),
+    }
+}
+
+fn write_wrong(text: &mut Vec<u8>, uid: Uid) -> Result<(), AllocError>
+    ensures { OnOk result (text.new.items ≡ text.old.items
+        ++ (codes " after many wrong answers of " ++ uid_text uid)) }
+{
+    write(text, " after many wrong answers of ")?;
+    write_uid(text, uid)
 }
 
 fn write_spent(text: &mut Vec<u8>, budget: Option<u64>) -> Result<(), AllocError>
@@ -347,15 +426,16 @@ fn write_early(text: &mut Vec<u8>, fault: &AgentFault) -> Result<(), AllocError>
 fn certificate_text(
     head: &RunHead,
     decided: bool,
+    old: bool,
     certificate: &RunFinding,
     names: &Option<KnownFinding>,
 ) -> &'static str
-    ensures { result.now ≡ certificate_text head.now decided certificate.now names.now }
+    ensures { result.now ≡ certificate_text head.now decided old certificate.now names.now }
 {
     match head.start {
         Start::At(number) => {
             if number == 0 {
-                begun_text(head, decided, certificate, names)
+                begun_text(head, decided, old, certificate, names)
             } else {
                 "; others may be on the line, as the log begins within the run"
             }
@@ -375,15 +455,16 @@ const UNKNOWN: &str =
 fn begun_text(
     head: &RunHead,
     decided: bool,
+    old: bool,
     certificate: &RunFinding,
     names: &Option<KnownFinding>,
 ) -> &'static str
-    ensures { result.now ≡ begun_text head.now decided certificate.now names.now }
+    ensures { result.now ≡ begun_text head.now decided old certificate.now names.now }
 {
     if is_complete(certificate) {
         sound_text(head.kind, names)
     } else {
-        gap_text(decided)
+        gap_text(decided, old)
     }
 }
 
@@ -411,15 +492,16 @@ fn sound_text(kind: Option<Kind>, names: &Option<KnownFinding>) -> &'static str
 }
 
 const IRREGULAR: &str =
-    "; no other device is on the line if all follow the rules, but the run isn't regular: \
-    discover again; if this comes again, suspect the controller or its log";
+    "; no other device is on the line if all follow the rules, but the run isn't regular";
 
 // A certificate of which a part fails.
-fn gap_text(decided: bool) -> &'static str
-    ensures { result.now ≡ gap_text decided }
+fn gap_text(decided: bool, old: bool) -> &'static str
+    ensures { result.now ≡ gap_text decided old }
 {
     if decided {
         "; others may be on the line"
+    } else if old {
+        "; others may be on the line: the run ended there if it is of an older version, or the log ends within it"
     } else {
         "; others may be on the line, or the log ends within the run"
     }

@@ -3,6 +3,7 @@
 #![tactic(auto)]
 
 mod asks;
+mod blame;
 mod cause;
 mod device_text;
 mod document;
@@ -26,6 +27,7 @@ mod log;
 mod mention;
 mod misread;
 mod opening;
+mod order;
 mod reading;
 mod run_json;
 mod stray_bytes;

@@ -3,7 +3,8 @@ ghost use Rattle.std.specs.Prelude.{◌≡◌, ◌++◌, [], Some, IfOk, OnOk, o
 ghost use Rattle.rdm_wire.specs.Uid.{has};
 ghost use Rattle.rdm_wire.specs.Devices.{uids_of};
 ghost use Rattle.rdm_findings.specs.Explained.{listed, staying, with_others, culprits_of, gone_of};
-ghost use Rattle.rdm_findings.specs.Explained.{before_failure, with_suspect, unmuted_after, misread_after, suspects_of};
+ghost use Rattle.rdm_findings.specs.BadAnswers.{before_failure};
+ghost use Rattle.rdm_findings.specs.Explained.{with_suspect, unmuted_after, misread_after, suspects_of};
 
 use crate::ending::{is_complete, unmuted_at};
 use crate::heard::RunUids;
@@ -151,35 +152,28 @@ fn add_new(suspects: &mut Vec<Uid>, uids: &[Uid], uid: Uid) -> Result<(), AllocE
     Ok(())
 }
 
-/// The known UIDs that acknowledged no mute, and are in neither list; none if the log doesn't have the known ones.
+/// The known UIDs that acknowledged no mute, and aren't in the list; none if the log doesn't have the known ones.
 pub(crate) fn gone_of(
     alloc: Global,
     acked: &RunUids,
     due: &[Uid],
-    suspects: &[Uid],
     known: Option<&[Uid]>,
 ) -> Result<Vec<Uid>, AllocError>
-    ensures { IfOk result (λ v. v.items ≡ gone_of acked.now due.now suspects.now (option_copied known.entry)) }
+    ensures { IfOk result (λ v. v.items ≡ gone_of acked.now due.now (option_copied known.entry)) }
 {
     match known {
-        Some(known) => gone(alloc, acked, due, suspects, known),
+        Some(known) => gone(alloc, acked, due, known),
         None => Ok(Vec::new(alloc)),
     }
 }
 
-// The known UIDs that acknowledged no mute, and are in neither list.
-fn gone(
-    alloc: Global,
-    acked: &RunUids,
-    due: &[Uid],
-    suspects: &[Uid],
-    known: &[Uid],
-) -> Result<Vec<Uid>, AllocError>
-    ensures { IfOk result (λ v. v.items ≡ gone_of acked.now due.now suspects.now (Some known.now)) }
+// The known UIDs that acknowledged no mute, and aren't in the list.
+fn gone(alloc: Global, acked: &RunUids, due: &[Uid], known: &[Uid]) -> Result<Vec<Uid>, AllocError>
+    ensures { IfOk result (λ v. v.items ≡ gone_of acked.now due.now (Some known.now)) }
 {
     let mut gone = Vec::new(alloc);
     'known: for uid in known {
-        if !(acked.contains(*uid) || (has(due, *uid) || has(suspects, *uid))) {
+        if !(acked.contains(*uid) || has(due, *uid)) {
             gone.push(*uid)?;
         }
     }

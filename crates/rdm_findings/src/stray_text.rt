@@ -2,7 +2,7 @@
 ghost use Rattle.std.specs.Prelude.{◌≡◌, ◌++◌, OnOk, codes};
 ghost use Rattle.rdm_wire.specs.UidText.{uid_text};
 ghost use Rattle.rdm_findings.specs.FindingText.{sighting_name, range_text, mute_text, place_text, sign_text};
-ghost use Rattle.rdm_findings.specs.FindingText.{advice_text, stray_text, stray_found, stray_finding};
+ghost use Rattle.rdm_findings.specs.FindingText.{sender_text, stray_text, stray_found, stray_finding};
 ghost use Rattle.rdm_findings.specs.FindingText.{asks_around, silent_text};
 ghost use Rattle.rdm_findings.specs.FindingText.{stray_judgement, sign_uid, of_stray};
 ghost use Rattle.rdm_findings.specs.Forms.{finding};
@@ -97,7 +97,7 @@ fn sign_uid(sign: &Sign) -> Option<Uid>
     }
 }
 
-// After what the bytes came, what they read as, and what to do about it.
+// After what the bytes came, what they read as, and who may have sent them.
 fn write_reason(
     text: &mut Vec<u8>,
     decided: bool,
@@ -108,20 +108,16 @@ fn write_reason(
 {
     write_place(text, asked)?;
     write_sign(text, asked, sign)?;
-    write(text, advice_text(decided, sign))
+    write(text, sender_text(decided, sign))
 }
 
-fn advice_text(decided: bool, sign: &Sign) -> &'static str
-    ensures { result.now ≡ advice_text decided sign.now }
+fn sender_text(decided: bool, sign: &Sign) -> &'static str
+    ensures { result.now ≡ sender_text decided sign.now }
 {
     match (sign, decided) {
-        (Sign::Listed(_), true) => ": take it off the line and discover again",
+        (Sign::Listed(_), true) | (Sign::Other(_), false) => "",
         (Sign::Listed(_), false) => "; or another device sent them",
-        (Sign::Other(_), true) => "; a rule was broken: name it by --present, if your rig has it",
-        (Sign::Other(_), false) => ": name it by --present, if your rig has it",
-        (Sign::Unread, true) => {
-            "; a rule was broken: look for noise, a device that isn't listed, or one that should be silent there"
-        }
+        (Sign::Other(_), true) | (Sign::Unread, true) => "; a rule was broken",
         (Sign::Unread, false) => "; they may be noise, or those of a device that isn't listed",
     }
 }

@@ -1,8 +1,8 @@
 //! What is printed about bytes after an unmute. No device may answer one, since it is for all.
 ghost use Rattle.std.specs.Prelude.{◌≡◌, ◌++◌, OnOk};
 ghost use Rattle.std.specs.List.{position};
-ghost use Rattle.rdm_findings.specs.FindingText.{answered_at, answered_finding, answers_unmute, is_answered_unmute};
-ghost use Rattle.rdm_findings.specs.FindingText.{is_loud};
+ghost use Rattle.rdm_findings.specs.UnmuteText.{answered_at, answered_finding, answers_unmute, is_answered_unmute};
+ghost use Rattle.rdm_findings.specs.UnmuteText.{is_loud};
 
 use crate::form::{Form, Judgement};
 use crate::head::Start;
@@ -22,8 +22,7 @@ pub(crate) fn write_answered(
     write_answered_at(text, form, start, first_answered(exchanges))
 }
 
-const ANSWERED: &str =
-    ": bytes came after an unmute, which no device may answer: look for noise, or split the line";
+const ANSWERED: &str = ": bytes came after an unmute, which no device may answer";
 
 fn write_answered_at(
     text: &mut Vec<u8>,
@@ -41,7 +40,8 @@ fn write_answered_at(
     }
 }
 
-fn first_answered(exchanges: &[Exchange]) -> Option<usize>
+/// The first unmute after which bytes came.
+pub(crate) fn first_answered(exchanges: &[Exchange]) -> Option<usize>
     ensures { result ≡ position is_answered_unmute exchanges.now }
 {
     exchanges.iter().position(is_answered_unmute)

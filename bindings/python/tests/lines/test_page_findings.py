@@ -50,6 +50,8 @@ class Findings(TestCase):
                 ("incomplete", bytes_of(SILENT), SILENT), ("incomplete", bytes_of(everyone), None),
                 ("complete", bytes_of(SILENT), None), ("complete", bytes_of(LEFT), LEFT),
                 ("incomplete", stray, None), ("complete", silent, RIGHT),
+                # What to do is said once, and isn't why a fixture is missing.
+                ("incomplete", finding("order", "take it off", uid=LEFT), None),
                 # A range that isn't settled begins with a UID that need be no device's.
                 ("incomplete", finding("gap", "not settled", uid=SILENT), None),
                 ("incomplete", finding("gap", "not settled", uid=LEFT), LEFT)):

@@ -47,8 +47,8 @@ BROKEN, UNBROKEN, NO_DISCOVERY = "A rule was broken.", "No broken rule was seen.
 BREAKS, BROKE, GARBLED = ("stray", "unmuted", "garbled"), "broke", "garbled"
 # The judgement on a part of the certificate that fails, which may be about a range of UIDs.
 GAP = "gap"
-# The judgements on bytes that read as a device's, which need not have sent them.
-STRAY = ("stray", "unexplained")
+# The judgements on bytes that read as a device's, which need not have sent them; and on what to do.
+NO_REASONS = ("stray", "unexplained", "order")
 NOTHING_ELSE = "nothing else can be on this line if it is honest"
 # Who hears nothing has more reason to doubt the line.
 NOTHING = "No fixture found: check the adapter and the first cable."
@@ -104,7 +104,7 @@ class Findings:
         """
         is_complete = all(run.outcome is Outcome.COMPLETE for run in self.runs)
         for each in self.all:
-            uid = None if each.judgement in STRAY else each.uid
+            uid = None if each.judgement in NO_REASONS else each.uid
             is_nobody = each.judgement == GAP or (is_complete and each.judgement == GARBLED)
             if uid is not None and ((is_nobody and uid not in expected) or is_broadcast(uid)):
                 uid = None

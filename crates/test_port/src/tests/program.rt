@@ -54,7 +54,7 @@ pub const LOG_FILE: &str =
 pub const LOG: Due<'static> = (
     "discovery: 1 exchange, 0 devices; others may be on the line\n\
      exchange 0 should be one of the three unmutes that begin a run\n\
-     not settled: a device from 0000:00000000 up may be missing\n\
+     not settled: a device from 0000:00000000 to ffff:ffffffff may be missing\n\
      exchange 0: 0000:00000000 alone was asked, and bytes came that are no right answer: \
      they don't begin like a discovery reply; \
      a rule was broken, by a device or noise: take 0000:00000000 off the line and discover again; \

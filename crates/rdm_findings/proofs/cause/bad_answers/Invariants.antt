@@ -1,5 +1,5 @@
 use Rattle.std.proofs.Common.{◌≡◌, ◌+◌, ◌≤◌, drop}
-use Rattle.rdm_findings.specs.Explained.{bad_answers}
+use Rattle.rdm_findings.specs.BadAnswers.{bad_answers}
 use Rattle.rdm_findings.proofs.cause.bad_answers.Given as goal
 
 abbrev pub invariant-loop-exchange : goal.invariant-loop-exchange

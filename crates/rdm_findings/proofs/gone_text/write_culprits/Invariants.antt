@@ -5,4 +5,6 @@ use Rattle.rdm_findings.proofs.gone_text.write_culprits.Given as goal
 
 abbrev pub invariant-culprits : goal.invariant-culprits
 invariant-culprits l =
-    l.text.items ≡ l.initial.text.items ++ flat_map (culprit_finding l.form l.exchanges) (take l.uid-index l.culprits)
+    l.text.items
+    ≡ l.initial.text.items
+    ++ flat_map (culprit_finding l.form l.facts l.exchanges) (take l.uid-index l.culprits)

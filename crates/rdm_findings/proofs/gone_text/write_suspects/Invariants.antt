@@ -6,4 +6,5 @@ use Rattle.rdm_findings.proofs.gone_text.write_suspects.Given as goal
 abbrev pub invariant-suspects : goal.invariant-suspects
 invariant-suspects l =
     l.text.items
-    ≡ l.initial.text.items ++ flat_map (suspect_finding l.form l.facts l.misreads) (take l.uid-index l.suspects)
+    ≡ l.initial.text.items
+    ++ flat_map (suspect_finding l.form l.facts l.misreads l.exchanges) (take l.uid-index l.suspects)

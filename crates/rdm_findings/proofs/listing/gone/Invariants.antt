@@ -7,4 +7,4 @@ use Rattle.rdm_findings.proofs.listing.gone.Given as goal
 abbrev pub invariant-known : goal.invariant-known
 invariant-known l =
     l.gone.items
-    ≡ filter (λ u. not (in_uids l.acked u || (has l.due u || has l.suspects u))) (take l.uid-index l.known)
+    ≡ filter (λ u. not (in_uids l.acked u || has l.due u)) (take l.uid-index l.known)

@@ -1,5 +1,5 @@
 use Rattle.rdm_findings.proofs.TextLemmas.{two_written}
-use Rattle.rdm_findings.proofs.garbled_text.write_blame.Goals as goal
+use Rattle.rdm_findings.proofs.garbled_text.write_who.Goals as goal
 
 pub returns : goal.returns
 returns c = two_written c.write_turns.result c.args.text.now.items c.write.new.text.items

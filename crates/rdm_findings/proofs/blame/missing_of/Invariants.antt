@@ -1,6 +1,6 @@
 use Rattle.std.proofs.Common.{◌≡◌, ◌+◌, ◌≤◌, drop}
 use Rattle.rdm_findings.specs.Explained.{missing_of}
-use Rattle.rdm_findings.proofs.explaining.missing_of.Given as goal
+use Rattle.rdm_findings.proofs.blame.missing_of.Given as goal
 
 abbrev pub invariant-loop-device : goal.invariant-loop-device
 invariant-loop-device l =
